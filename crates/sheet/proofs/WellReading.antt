@@ -22,26 +22,17 @@ use Rattle.sheet.specs.declared.reader.Kind.{Kind}
 use Rattle.sheet.specs.declared.reader.Kind.the-variants.{Poll as OfPoll, Lane as OfLane}
 use Rattle.sheet.specs.declared.fault.RecordFault.{RecordFault}
 use Rattle.sheet.specs.declared.fault.RecordFault.the-variants.{Ending}
-use Rattle.sheet.specs.Limits.{headerBytes, longestName}
+use Rattle.sheet.specs.Limits.{headerBytes, mostPolls, mostLanes, longestName}
 use Rattle.sheet.specs.Header.{wordAt, claimedLength, claimedPolls, claimedLanes}
 use Rattle.sheet.specs.Entries.{Entry, kindOf, nameOf, namesOf, placeOf, endOf}
 use Rattle.sheet.specs.Records.{kindAt, claimedName, nameBytes, nameLengthFits, numbersSize, isPlain, isTaken, numbersFit, endsAtLength}
 use Rattle.sheet.specs.Reading.{numbered, entriesFrom, readSheet}
 use Rattle.sheet.specs.Questions.{Question, ask, AllYes, headerQuestions, recordQuestions}
 use Rattle.sheet.specs.Laws.{WithinLimits, WellNamed, Distinct, Tiles, PollsFirst, WellRead}
+use Rattle.sheet.proofs.Answers.{ok-same, cond-ok}
 use Rattle.sheet.proofs.Unrolled.{asked, entryHere, here-kind, here-name, here-place, behind, record-asked, entriesClaimed, sheet-asked}
 
--- what an answer with records says of the questions on the way to it
-pub never : {A E : Type 0} (x : A) (e : E) → _≡_ {A = Result A E} (Err e) (Ok x) → ⊥
-never x e p = let z : _≡_ {A = ℕ} 0 1 = cc in omega arith
-
-ok-same : {A E : Type 0} (x y : A) → _≡_ {A = Result A E} (Ok x) (Ok y) → x ≡ y
-ok-same x y p = cc
-
-cond-ok : (b : Bool) (r : Result (List Entry) RecordFault) (e : RecordFault) (entries : List Entry) → cond b r (Err e) ≡ Ok entries → (b ≡ true) × (r ≡ Ok entries)
-cond-ok true r e entries h = (refl, h)
-cond-ok false r e entries h = absurd (never entries e h)
-
+-- what records as an answer say of the questions on the way to them
 asked-ok : (qs : List Question) (r : Result (List Entry) RecordFault) (entries : List Entry) → asked qs r ≡ Ok entries → AllYes qs × (r ≡ Ok entries)
 asked-ok [] r entries h = (tt, h)
 asked-ok (q ∷ qs) r entries h =
@@ -139,6 +130,7 @@ well-read bytes entries e =
     let got = asked-ok (headerQuestions bytes) (entriesClaimed bytes) entries (sym (sheet-asked bytes) ∙ e) in
     let given = and-parts (leb headerBytes (length bytes)) _ (got .0 .0) in
     let inside = leb-true (claimedLength bytes) (length bytes) (and-parts (leb headerBytes (claimedLength bytes)) _ (given .1) .1) in
+    let counts = and-parts (leb (claimedPolls bytes) mostPolls) _ (got .0 .1 .1 .0) in
     let start : Sofar (claimedPolls bytes) 0 [] headerBytes = record { limits = tt; names = tt; distinct = tt; tiles = refl; count = refl; order = tt } in
     let all = sofar-all (claimedPolls bytes) (take (claimedLength bytes) bytes) (claimedPolls bytes + claimedLanes bytes) 0 [] headerBytes entries start (got .1) in
     record {
@@ -146,6 +138,8 @@ well-read bytes entries e =
       names = all .names;
       distinct = all .distinct;
       tiles = subst (Tiles headerBytes entries) (length-take-le (claimedLength bytes) bytes inside) (all .tiles);
+      fewPolls = leb-true (claimedPolls bytes) mostPolls (counts .0);
+      fewLanes = leb-true (claimedLanes bytes) mostLanes (and-parts (leb (claimedLanes bytes) mostLanes) _ (counts .1) .0);
       count = all .count ∙ zero-add _;
       order = all .order;
     }

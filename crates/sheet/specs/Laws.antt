@@ -7,7 +7,7 @@ use lib.ListN.{length, take}
 use Rattle.std.specs.shelf.Lists.{All}
 use Rattle.std.specs.declared.result.Result.the-variants.{Ok}
 use Rattle.sheet.specs.declared.reader.Kind.the-variants.{Poll as OfPoll, Lane as OfLane}
-use Rattle.sheet.specs.Limits.{headerBytes, longestName, latestPhase, longestSpan}
+use Rattle.sheet.specs.Limits.{headerBytes, mostPolls, mostLanes, longestName, latestPhase, longestSpan}
 use Rattle.sheet.specs.Header.{claimedLength, claimedPolls, claimedLanes, lengthIsGiven}
 use Rattle.sheet.specs.Entries.{Entry, poll, lane, kindOf, nameOf, placeOf, endOf}
 use Rattle.sheet.specs.Records.{isPlain}
@@ -44,6 +44,8 @@ pub record WellRead (bytes : List ℕ) (entries : List Entry) : Type 0 where
   pub names : All WellNamed entries
   pub distinct : Distinct entries
   pub tiles : Tiles headerBytes entries (claimedLength bytes)
+  pub fewPolls : claimedPolls bytes ≤ mostPolls
+  pub fewLanes : claimedLanes bytes ≤ mostLanes
   pub count : length entries ≡ claimedPolls bytes + claimedLanes bytes
   pub order : PollsFirst (claimedPolls bytes) entries
 
