@@ -12,3 +12,5 @@ pub use table::Lane;
 pub use table::Poll;
 pub use table::Table;
 pub use verdict::admit;
+pub use verdict::length_of;
+pub use verdict::share_of;

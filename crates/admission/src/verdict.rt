@@ -23,7 +23,7 @@ use sheet::Record;
 const LONGEST_CYCLE: u64 = 1_000_000_000;
 
 // A poll's period, a lane's span.
-fn length_of(record: Record<'_>) -> u64
+pub fn length_of(record: Record<'_>) -> u64
     ensures value { λ r. ⌜ r ≡ lengthOf (seen («record» .entry)) ⌝ }
 {
     match record {
@@ -33,7 +33,7 @@ fn length_of(record: Record<'_>) -> u64
 }
 
 // A poll's budget, a lane's quota.
-fn share_of(record: Record<'_>) -> u64
+pub fn share_of(record: Record<'_>) -> u64
     ensures value { λ r. ⌜ r ≡ shareOf (seen («record» .entry)) ⌝ }
 {
     match record {
