@@ -18,8 +18,8 @@ pub enum AdmissionFault {
 pub impl From<RecordFault> for AdmissionFault as AdmissionFaultFromRecordFault {
     ghost converts = { λ fault r. r ≡ Record fault };
 
-    fn from(fault: RecordFault) -> AdmissionFault {
-        AdmissionFault::Record(fault)
+    fn from(inner: RecordFault) -> AdmissionFault {
+        AdmissionFault::Record(inner)
     }
 }
 

@@ -50,8 +50,8 @@ pub enum RecordFault {
 pub impl From<ByteFault> for RecordFault as RecordFaultFromByteFault {
     ghost converts = { λ fault r. r ≡ Bytes fault };
 
-    fn from(fault: ByteFault) -> RecordFault {
-        RecordFault::Bytes(fault)
+    fn from(inner: ByteFault) -> RecordFault {
+        RecordFault::Bytes(inner)
     }
 }
 

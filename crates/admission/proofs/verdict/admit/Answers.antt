@@ -1,6 +1,7 @@
 use mathlib.Core.Path.{_≡_, sym}
 use mathlib.Core.List.{map}
 use native.Mathlib.Nat.{sub-zero}
+use native.Mathlib.Omega.{arith}
 use borrow.Author.Needs.{needs}
 use lib.ListN.{take}
 use Prim.Native.Nat.{_-_}
@@ -23,7 +24,7 @@ holding-requires c κs =
     let told = c .in-Continue-count .ensures tt in
     let well : WellRead (c .args .bytes .now) (map seen (take (c .in-Continue-count .count - 0) (c .read .last .records))) =
     rw (sub-zero (c .in-Continue-count .count)) (told .laws .wellRead _ (told .value .1)) in
-    admissible-records _ _ _ _ well (sym (c .in-Continue-cycle .ensures tt .value)) (c .load-of-load .ensures .value) (c .if-load-cycle .left)
+    admissible-records _ _ _ _ well (sym (c .in-Continue-cycle .ensures tt .value)) (c .load-of-load .ensures .value) (omega arith)
 
 pub returns-in-Break-count : need.returns-in-Break-count
 returns-in-Break-count c = record { answer = search needs; fills = search needs; stays = search needs; laws = admission-laws (c .args .bytes .now) }

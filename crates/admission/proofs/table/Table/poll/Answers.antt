@@ -1,9 +1,9 @@
-use native.Mathlib.Omega.{arith}
+use borrow.Author.Needs.{needs}
 use Rattle.admission.proofs.Places.{place-held, place-free}
 use Rattle.admission.proofs.table.Table.poll.Needs as need
 
 pub returns-then-i-self : need.returns-then-i-self
-returns-then-i-self c = record { value = place-held (c .args .self .now .polls) _ (c .args .i) _ (omega arith) (c .if-i-self .taken) }
+returns-then-i-self c = search (needs, place-held)
 
 pub returns-else-i-self : need.returns-else-i-self
-returns-else-i-self c = record { value = place-free (c .args .self .now .polls) _ (c .args .i) (omega arith) (c .if-i-self .left) }
+returns-else-i-self c = search (needs, place-free)
