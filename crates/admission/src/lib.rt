@@ -1,5 +1,6 @@
 // The admission of a sheet: its cycle and its load are added up exactly, and a sheet whose load fits its cycle fills a
 // table, from which the unit works.
+#![tactic(auto)]
 
 pub mod fault;
 pub mod measure;

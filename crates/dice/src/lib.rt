@@ -1,4 +1,6 @@
 // Numbers that look random and are the same in every run, for rehearsals. The period is 2 to the power of 64.
+#![tactic(auto)]
+
 ghost use Rattle.std.specs.Prelude.{◌≡◌, cond, eqb, ◌%◌};
 ghost use Rattle.dice.specs.Rolling.{next_state, face_of};
 

@@ -1,5 +1,7 @@
 // hall_verdict: reads a sheet from standard input and prints the page that hangs beside the pairings. It ends with status
 // 0 where the sheet is admitted, and with 1 where it is refused or cannot be had.
+#![tactic(auto)]
+
 use anyhow::anyhow;
 use notice::Notice;
 use std::io::{Read, Write};

@@ -1,5 +1,6 @@
 // The plain machine: what the unit means, call by call, and what holds of every history of calls. This crate is nearly all
 // definitions (specs/) and proofs; the unit's calls are tied to it in the crate above.
+#![tactic(auto)]
 
 pub mod call;
 pub mod promise;

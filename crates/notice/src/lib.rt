@@ -1,4 +1,6 @@
 // The verdict on a sheet as a page to hang up beside the pairings.
+#![tactic(auto)]
+
 ghost use Rattle.std.specs.Prelude.{◌≡◌, is_ok, IfOk};
 ghost use Rattle.admission.specs.Verdict.{admit_sheet};
 ghost use Rattle.notice.specs.Pages.{known_cycle, page_of};

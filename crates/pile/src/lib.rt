@@ -1,5 +1,6 @@
 // The ordered pile: a bounded priority queue in memory that somebody lends, for every kind of element with a total order.
 // docs/RULES.md has what it means in words.
+#![tactic(auto)]
 
 pub mod area;
 pub mod order;

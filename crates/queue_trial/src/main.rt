@@ -1,4 +1,6 @@
 // Random operations on both ready queues and on a plain list in order, compared after every step.
+#![tactic(auto)]
+
 mod clients;
 mod plain;
 

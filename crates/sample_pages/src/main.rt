@@ -1,4 +1,6 @@
 // sample_pages: makes the page of each sample sheet and compares it with the page that is stored beside it.
+#![tactic(auto)]
+
 use notice::Notice;
 use std::{env, fs};
 

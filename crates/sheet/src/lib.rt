@@ -1,5 +1,6 @@
 // The hall sheet: from the bytes that an arbiter's machine sends to the records that they hold, or to the
 // fault of the first question that is answered with no. docs/RULES.md has the format byte by byte.
+#![tactic(auto)]
 
 pub mod fault;
 pub mod header;
