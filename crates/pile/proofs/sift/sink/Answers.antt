@@ -9,12 +9,12 @@ pub loop-hole-preserved : goal.loop-hole-preserved
 loop-hole-preserved g c =
     let l = c.loop-hole in
     let i = l.invariant in
-    let child = c.least-child-child.ensures.least in
+    let child = c.least_child-child.ensures.least in
     let t = c.loop-hole-test.true in
-    let in' : c.least-child-child.result < length l.area = omega arith in
-    sinking_steps g.T.Ranked.before g.met.T.Ranked.total c.args.area.now c.args.count c.args.element l.area l.hole c.least-child-child.result
+    let in' : c.least_child-child.result < length l.area = omega arith in
+    sinking_steps g.T.Ranked.before g.met.T.Ranked.total c.args.area.now c.args.count c.args.element l.area l.hole c.least_child-child.result
     c.index-area-child.result c.requires.1 child.from child.to (omega arith) (λ k d a b m. child.least k d a b)
-    (get_or_read l.area c.least-child-child.result c.index-area-child.result in' c.index-area-child.is) i
+    (get_or_read l.area c.least_child-child.result c.index-area-child.result in' c.index-area-child.is) i
 
 pub returns : goal.returns
 returns g c =
