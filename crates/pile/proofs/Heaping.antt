@@ -1,13 +1,13 @@
 -- Heap order: what each step of a hole keeps, and what the first of a heap is.
-use Rattle.std.proofs.Common.{◌≡◌, ℕ, zero, suc, ◌+◌, ◌-◌, ◌/◌, ◌<◌, ◌≤◌, Bool, true, false, ◌⊎◌, List, [], ◌∷◌, length, get_or, take, drop, set, sym, refl, ap, ◌∙◌, subst, inl, inr, ⊎_elim, add-one, arith, length-set, length-take-le, get_or-set_other, get_or-take, take-suc, get_or-set_same}
+use Rattle.std.proofs.Common.{◌≡◌, ℕ, zero, suc, ◌+◌, ◌-◌, ◌/◌, ◌<◌, ◌≤◌, Bool, true, false, List, [], ◌∷◌, length, get_or, take, set, sym, refl, ap, ◌∙◌, ⊎_elim, add-one, arith, length-take-le, get_or-set_other, get_or-take, take-suc, get_or-set_same}
 use Rattle.std.proofs.lemmas.List.{get_or_read}
 use Rattle.std.proofs.lemmas.Bool.{cases_eq}
 use Rattle.pile.specs.Order.{Total}
 use Rattle.pile.specs.Sorted.{sorted, without_first}
-use Rattle.pile.specs.Heaps.{Heaped, Bridged, Rising, Hollow}
+use Rattle.pile.specs.Heaps.{Heaped, Rising, Hollow}
 use Rattle.pile.specs.Sifting.{LeastChild}
 use Rattle.pile.proofs.Inserting.{sorted_cons}
-use Rattle.pile.proofs.Sorting.{Front, front_each, sorted_first, sorted_push, sorted_take_swap, never, less, not_before}
+use Rattle.pile.proofs.Sorting.{Front, front_each, sorted_first, sorted_push, never, less, not_before}
 
 -- what a swap says of the places
 abbrev pub Swapped : {X : Type 0} → List X → List X → ℕ → ℕ → Type 0

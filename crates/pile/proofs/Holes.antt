@@ -2,8 +2,8 @@
 use Rattle.std.proofs.Common.{◌≡◌, ℕ, zero, suc, ◌+◌, ◌-◌, ◌/◌, ◌<◌, ◌≤◌, Bool, true, false, List, [], ◌∷◌, length, get_or, take, drop, set, sym, refl, ap, ◌∙◌, arith, length-set, get_or-set_other, get_or-set_same, drop-set-lt}
 use Rattle.pile.specs.Order.{Total}
 use Rattle.pile.specs.Sorted.{sorted}
-use Rattle.pile.specs.Heaps.{Heaped, Rising, Hollow}
-use Rattle.pile.specs.Sifting.{Lifted, Sunk, LeastChild}
+use Rattle.pile.specs.Heaps.{Rising, Hollow}
+use Rattle.pile.specs.Sifting.{Lifted, Sunk}
 use Rattle.pile.proofs.Sorting.{sorted_take_swap}
 use Rattle.pile.proofs.Heaping.{Swapped, rise_steps, rise_ends, rise_from_leaf, hollow_steps}
 

@@ -1,5 +1,5 @@
 -- What an insertion and a sort are on each form of a list, and how long they are.
-use Rattle.std.proofs.Common.{◌≡◌, ℕ, ◌+◌, Bool, true, false, cond, List, [], ◌∷◌, length, refl, ap, ◌∙◌, arith}
+use Rattle.std.proofs.Common.{◌≡◌, ◌+◌, Bool, true, false, cond, List, [], ◌∷◌, length, refl, ap, ◌∙◌, arith}
 use Rattle.pile.specs.Sorted.{insert, sorted}
 
 module _ {X : Type 0} (before : X → X → Bool) where

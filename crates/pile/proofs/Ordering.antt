@@ -1,7 +1,7 @@
 -- Orders by numbers: when they are total, a number at a time.
 use Rattle.std.proofs.Common.{◌≡◌, ℕ, ◌<◌, Bool, true, false, cond, ltb, ◌⊎◌, sym, ap, ◌∙◌, inl, inr, ⊎_elim, arith}
 use Rattle.std.proofs.lemmas.Bool.{cases_order, lt-ltb, le-ltb, ltb-true, ltb-false}
-use Rattle.pile.specs.Order.{Total, by, by_then}
+use Rattle.pile.specs.Order.{by, by_then}
 use Rattle.pile.proofs.Sorting.{clash}
 
 module _ {X : Type 0} (key : X → ℕ) where

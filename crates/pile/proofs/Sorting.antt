@@ -1,6 +1,6 @@
 -- Bags as sorted lists under a total order: insertions commute, so a write, a swap and a push change the sorted list as
 -- they change the bag.
-use Rattle.std.proofs.Common.{◌≡◌, ℕ, zero, suc, ◌+◌, ◌-◌, ◌<◌, ◌≤◌, Bool, true, false, cond, List, [], ◌∷◌, ◌++◌, length, get_or, take, drop, set, sym, refl, ap, ◌∙◌, subst, arith, length-take-le, get_or-set_other, get_or-take, get_or-set_same, drop-set-lt, lt-length-set}
+use Rattle.std.proofs.Common.{◌≡◌, ℕ, zero, suc, ◌<◌, ◌≤◌, Bool, true, false, cond, List, [], ◌∷◌, ◌++◌, length, get_or, take, set, sym, refl, ap, ◌∙◌, subst, arith, length-take-le, get_or-set_other, get_or-take, lt-length-set}
 use lib.Seq.{take-set-lt}
 use Rattle.pile.specs.Order.{Total}
 use Rattle.pile.specs.Sorted.{insert, sorted}

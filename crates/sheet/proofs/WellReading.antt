@@ -1,22 +1,22 @@
 -- The records of a sheet that is read are as they should be: one induction carries all that holds of those so far.
-use Rattle.std.proofs.Common.{◌≡◌, ℕ, zero, suc, ◌+◌, ◌-◌, ◌<◌, ◌≤◌, Bool, true, false, cond, not, ◌&&◌, ltb, leb, List, [], ◌∷◌, ◌++◌, length, take, drop, Ok, Err, Result, sym, refl, ap, ◌∙◌, subst, add_assoc, add_comm, zero-add, add-one, arith, length-drop, length-take-le}
+use Rattle.std.proofs.Common.{◌≡◌, ℕ, zero, suc, ◌+◌, ◌≤◌, true, false, cond, not, ltb, leb, List, [], ◌∷◌, ◌++◌, length, take, drop, Ok, Result, sym, refl, ap, ◌∙◌, subst, zero-add, arith, length-drop, length-take-le}
 use Rattle.std.specs.List.{AllByRecursion as All}
 use Rattle.std.specs.Str.{bytes_eq}
 use Rattle.std.proofs.ByRecursion.{All-push}
 use Rattle.std.proofs.lemmas.Slice.Eq.{bytes_eq-Decides}
 use Rattle.std.proofs.lemmas.List.{length_push}
-use Rattle.std.proofs.lemmas.Bool.{and_parts, or_parts, not-true, both_ways, ltb-true, leb-true, eqb-true, lt-ltb, le-ltb, false≢true}
+use Rattle.std.proofs.lemmas.Bool.{and_parts, or_parts, not-true, both_ways, leb-true, eqb-true, lt-ltb, le-ltb}
 use Rattle.std.proofs.lemmas.Bool.Decides.{nat_tests}
 use Rattle.sheet.specs.declared.reader.Kind.{Kind}
 use Rattle.sheet.specs.declared.reader.Kind.TheVariants.{Poll as OfPoll, Lane as OfLane}
 use Rattle.sheet.specs.declared.fault.RecordFault.{RecordFault}
 use Rattle.sheet.specs.declared.fault.RecordFault.TheVariants.{Ending}
 use Rattle.sheet.specs.Limits.{header_bytes, most_polls, most_lanes, longest_name}
-use Rattle.sheet.specs.Header.{word_at, claimed_length, claimed_polls, claimed_lanes}
+use Rattle.sheet.specs.Header.{claimed_length, claimed_polls, claimed_lanes}
 use Rattle.sheet.specs.Entries.{Entry, kind_of, name_of, names_of, place_of, end_of}
 use Rattle.sheet.specs.Records.{kind_at, claimed_name, name_bytes, name_length_fits, numbers_size, is_plain, is_taken, numbers_fit, ends_at_length}
 use Rattle.sheet.specs.Reading.{numbered, entries_from, read_sheet}
-use Rattle.sheet.specs.Questions.{Question, ask, AllYes, header_questions, record_questions}
+use Rattle.sheet.specs.Questions.{Question, AllYes, header_questions, record_questions}
 use Rattle.sheet.specs.Laws.{WithinLimits, WellNamed, Distinct, Tiles, PollsFirst, WellRead}
 use Rattle.sheet.proofs.Answers.{ok_same, cond_ok}
 use Rattle.sheet.proofs.Unrolled.{asked, entry_here, here_kind, here_name, here_place, behind, record_asked, entries_claimed, sheet_asked}

@@ -1,4 +1,4 @@
-use Rattle.std.proofs.Common.{◌≡◌, ◌≤◌, ◌++◌, map, length, take, Ok, sym, ap, ◌∙◌, arith, rules}
+use Rattle.std.proofs.Common.{◌≡◌, ◌≤◌, map, length, take, Ok, sym, ap, ◌∙◌, rules}
 use Rattle.std.proofs.lemmas.Slice.{overwrites}
 use Rattle.sheet.specs.Entries.{seen}
 use Rattle.sheet.specs.Reading.{read_sheet}
