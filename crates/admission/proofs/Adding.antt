@@ -1,5 +1,5 @@
 -- One turn of the loops that add up the cycle and the load: what is left decides, before the turn as after it.
-use Rattle.std.proofs.Common.{◌≡◌, ℕ, ◌+◌, ◌*◌, ◌/◌, ◌<◌, ◌≤◌, cond, leb, List, ◌∷◌, map, length, get_or, drop, Err, sym, refl, ap, ◌∙◌, subst, add_assoc, mul-le-mul, div-le_self, arith}
+use Rattle.std.proofs.Common.{◌≡◌, ℕ, ◌+◌, ◌*◌, ◌/◌, ◌<◌, ◌≤◌, cond, leb, List, map, length, get_or, drop, Err, sym, ap, ◌∙◌, subst, add_assoc, mul-le-mul, div-le_self, arith}
 use Rattle.std.specs.List.{AllByRecursion as All}
 use Rattle.std.proofs.lemmas.List.{at_drop_more, drop_more}
 use Rattle.std.proofs.lemmas.Bool.{le-leb, lt-leb}

@@ -1,7 +1,7 @@
 -- The cycle is the least common multiple of all lengths, and there is but one.
-use Rattle.std.proofs.Common.{◌≡◌, ℕ, ◌<◌, ◌≤◌, List, [], ◌∷◌, ◌++◌, map, sym, refl, ap, ◌∙◌, subst, arith}
+use Rattle.std.proofs.Common.{◌≡◌, ℕ, ◌<◌, ◌≤◌, List, [], ◌∷◌, ◌++◌, refl, arith}
 use Prim.Native.Nat.{◌∣◌}
-use native.Mathlib.Nat.{dvd_refl, dvd_trans, one-dvd, dvd_antisymm, le_of_dvd, pos_of_dvd_of_pos}
+use native.Mathlib.Nat.{dvd_refl, dvd_trans, one-dvd, dvd_antisymm, le_of_dvd}
 use Rattle.std.specs.List.{AllByRecursion as All}
 use Rattle.admission.specs.Measure.{multiple_of}
 use Rattle.admission.specs.Demand.{multiple_of_all}

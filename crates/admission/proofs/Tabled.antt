@@ -1,6 +1,6 @@
 -- The records of a sheet that is admitted make an admissible table: polls stand before lanes, so that the lengths, the
 -- load and the counts of the records are those of the polls and the lanes.
-use Rattle.std.proofs.Common.{◌≡◌, ℕ, zero, suc, ◌+◌, ◌-◌, ◌≤◌, Bool, true, false, cond, ◌&&◌, leb, List, [], ◌∷◌, ◌++◌, map, length, Ok, sym, refl, ap, ◌∙◌, subst, arith}
+use Rattle.std.proofs.Common.{◌≡◌, ℕ, zero, suc, ◌+◌, ◌-◌, ◌≤◌, Bool, true, false, leb, List, [], ◌∷◌, map, length, Ok, sym, refl, ap, ◌∙◌, subst, arith}
 use Rattle.std.specs.List.{AllByRecursion as All}
 use Rattle.std.proofs.lemmas.List.{nil_from_length, length-map}
 use Rattle.std.proofs.lemmas.Bool.{and_from, le-leb, leb-true}
@@ -10,16 +10,14 @@ use Rattle.sheet.specs.declared.reader.Kind.TheVariants.{Poll as OfPoll, Lane as
 use Rattle.sheet.specs.Header.{claimed_polls, claimed_lanes}
 use Rattle.sheet.specs.Limits.{latest_phase, longest_span}
 use Rattle.sheet.specs.declared.record.Record.{Record}
-use Rattle.sheet.specs.Entries.{Entry, poll, lane, seen, kind_of, place_of}
+use Rattle.sheet.specs.Entries.{Entry, poll, lane, seen, place_of}
 use Rattle.sheet.specs.Laws.{WithinLimits, PollsFirst, WellRead}
-use Rattle.admission.specs.declared.fault.AdmissionFault.{AdmissionFault}
 use Rattle.admission.specs.declared.fault.AdmissionFault.TheVariants.{Cycle}
 use Rattle.admission.specs.Measure.{multiple_of}
-use Rattle.admission.specs.Sums.{sum_of}
 use Rattle.admission.specs.Limits.{poll_fits, lane_fits, all_fit}
-use Rattle.admission.specs.Demand.{longest_cycle, multiple_of_all, lengths_of, poll_slots, lane_slots, load_of}
+use Rattle.admission.specs.Demand.{longest_cycle, multiple_of_all, lengths_of, load_of}
 use Rattle.admission.specs.Contents.{Admissible}
-use Rattle.admission.specs.Verdict.{length_of, lengths, cycle_from, slots_of, load_in, polls_in, lanes_in, filled}
+use Rattle.admission.specs.Verdict.{length_of, lengths, cycle_from, load_in, polls_in, lanes_in, filled}
 
 -- a poll is no lane
 abbrev is_poll : Kind → Bool

@@ -1,6 +1,6 @@
 -- The laws of a verdict: within the limit the cycle is found and the load decides, past it the first record that goes past
 -- it is named, and over another common multiple everything grows alike.
-use Rattle.std.proofs.Common.{◌≡◌, ℕ, ◌+◌, ◌*◌, ◌/◌, ◌<◌, ◌≤◌, Bool, true, false, cond, leb, ◌⊎◌, ◌↔◌, List, [], ◌∷◌, ◌++◌, map, is_ok, Ok, Err, Result, sym, refl, ap, ◌∙◌, subst, inl, inr, append_assoc, mul_assoc, mul_comm, mul-le-mul_left, mul-add, arith}
+use Rattle.std.proofs.Common.{◌≡◌, ℕ, ◌+◌, ◌*◌, ◌/◌, ◌<◌, ◌≤◌, Bool, true, false, cond, leb, ◌↔◌, List, [], ◌∷◌, ◌++◌, is_ok, Ok, Err, sym, refl, ap, ◌∙◌, subst, inl, inr, append_assoc, mul_assoc, mul_comm, mul-le-mul_left, mul-add, arith}
 use Prim.Native.Nat.{◌∣◌}
 use native.Mathlib.Nat.{dvd-mul_right, mul-div_assoc, div-mul_cancel, le_of_mul-le-mul_left, pos_of_dvd_of_pos}
 use Rattle.std.specs.List.{AllByRecursion as All}
@@ -12,12 +12,11 @@ use Rattle.sheet.specs.Laws.{WithinLimits}
 use Rattle.sheet.specs.Reading.{read_sheet, next}
 use Rattle.sheet.proofs.Answers.{ok_same, cond_ok, next_ok}
 use Rattle.sheet.proofs.WellReading.{well_read}
-use Rattle.admission.specs.declared.fault.AdmissionFault.{AdmissionFault}
-use Rattle.admission.specs.declared.fault.AdmissionFault.TheVariants.{Cycle, Load}
+use Rattle.admission.specs.declared.fault.AdmissionFault.TheVariants.{Cycle}
 use Rattle.admission.specs.Measure.{multiple_of}
 use Rattle.admission.specs.Demand.{longest_cycle, multiple_of_all}
 use Rattle.admission.specs.Verdict.{length_of, share_of, lengths, cycle_from, slots_of, load_in, weighed, verdict, after_reading, admit_sheet}
-use Rattle.admission.specs.Laws.{CommonMultiple, LeastCommon, GrowsPast, VerdictLaws, AdmissionLaws}
+use Rattle.admission.specs.Laws.{CommonMultiple, LeastCommon, GrowsPast, AdmissionLaws}
 use Rattle.admission.proofs.Adding.{sized}
 use Rattle.admission.proofs.Cycles.{Positive, cycle_is, start_below, multiple_append}
 use Rattle.admission.proofs.Measures.{multiple_pos}

@@ -1,5 +1,5 @@
 -- Whether a bag has a job, by its count.
-use Rattle.std.proofs.Common.{◌≡◌, ℕ, ◌<◌, true, List, [], ◌∷◌, length, Some, refl, arith}
+use Rattle.std.proofs.Common.{◌≡◌, ◌<◌, true, List, [], ◌∷◌, length, Some, refl, arith}
 use Rattle.queue.specs.declared.job.Job.{Job}
 use Rattle.queue.specs.Jobs.{is_some_job}
 

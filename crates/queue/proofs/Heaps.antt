@@ -1,10 +1,9 @@
 -- What the calls of a heap of jobs do to its bag, from what they do to its pile.
-use Rattle.std.proofs.Common.{◌≡◌, ℕ, ◌<◌, ◌≤◌, min, Bool, true, false, cond, ◌⊎◌, List, [], ◌∷◌, length, get_or, take, Some, None, Ok, Err, MatchBool, Option, Result, sym, refl, ap, ◌∙◌, inl, inr, arith, MatchResult}
+use Rattle.std.proofs.Common.{◌≡◌, ℕ, ◌<◌, ◌≤◌, min, Bool, true, false, ◌⊎◌, List, [], ◌∷◌, length, take, Some, Ok, Err, MatchBool, Result, sym, refl, ap, ◌∙◌, inl, inr, arith, MatchResult}
 use Rattle.pile.specs.declared.pile.Pile.{Pile}
 use Rattle.pile.specs.declared.refusal.PutRefusal.{PutRefusal}
-use Rattle.pile.specs.Sorted.{insert, sorted, first_of, without_first}
+use Rattle.pile.specs.Sorted.{sorted, first_of, without_first}
 use Rattle.pile.specs.Piles.{places_of, bag_of, Piled, Put, Dropped, Replaced}
-use Rattle.pile.proofs.Inserting.{sorted_none}
 use Rattle.pile.proofs.Sorting.{sorted_sorted, insert_sooner}
 use Rattle.queue.specs.declared.job.Job.{Job}
 use Rattle.queue.specs.declared.heap.Heap.{Heap}

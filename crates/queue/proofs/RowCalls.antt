@@ -1,7 +1,7 @@
 -- What the calls of a row of jobs do to its bag.
-use Rattle.std.proofs.Common.{◌≡◌, ℕ, ◌-◌, ◌<◌, ◌≤◌, min, Bool, true, false, List, [], ◌∷◌, length, get_or, take, set, Some, None, sym, refl, ap, ◌∙◌, arith, length-set}
+use Rattle.std.proofs.Common.{◌≡◌, ℕ, ◌-◌, ◌<◌, ◌≤◌, min, true, [], ◌∷◌, length, get_or, set, sym, ap, ◌∙◌, arith, length-set}
 use Rattle.std.proofs.lemmas.List.{get_or_default}
-use Rattle.pile.specs.Sorted.{first_of, without_first}
+use Rattle.pile.specs.Sorted.{without_first}
 use Rattle.pile.specs.Piles.{places_of, bag_of}
 use Rattle.queue.specs.declared.job.Job.{Job}
 use Rattle.queue.specs.declared.row.Row.{Row}

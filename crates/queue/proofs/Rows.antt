@@ -1,9 +1,9 @@
 -- Rows in falling order: where an element belongs, what the moves of a hole leave, and what the last is.
-use Rattle.std.proofs.Common.{◌≡◌, ℕ, zero, suc, ◌+◌, ◌-◌, ◌<◌, ◌≤◌, Bool, true, false, ◌⊎◌, List, ◌∷◌, length, get_or, take, drop, set, sym, refl, ap, ◌∙◌, inl, inr, ⊎_elim, arith, length-set, length-take-le, get_or-set_other, get_or-take, get_or-set_same, drop-set-lt}
+use Rattle.std.proofs.Common.{◌≡◌, ℕ, zero, suc, ◌+◌, ◌-◌, ◌<◌, ◌≤◌, Bool, true, false, List, ◌∷◌, length, get_or, take, drop, set, sym, refl, ap, ◌∙◌, ⊎_elim, arith, length-set, length-take-le, get_or-set_other, get_or-take, get_or-set_same, drop-set-lt}
 use Rattle.std.proofs.lemmas.List.{take_more, take_more_set, take-set, get_or_default}
 use Rattle.std.proofs.lemmas.Bool.{cases_eq, cases_lt}
 use Rattle.pile.specs.Order.{Total}
-use Rattle.pile.specs.Sorted.{insert, sorted}
+use Rattle.pile.specs.Sorted.{sorted}
 use Rattle.pile.specs.Piles.{bag_of}
 use Rattle.pile.proofs.Sorting.{never, leads, less, not_before, sorted_push, front_each, front_sorted, insert_first}
 use Rattle.pile.proofs.Holes.{move_same}

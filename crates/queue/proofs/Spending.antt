@@ -1,10 +1,9 @@
 -- What spending does to a bag whose first job is known.
-use Rattle.std.proofs.Common.{◌≡◌, ◌<◌, ◌≤◌, cond, List, ◌∷◌, sym, refl, ap, ◌∙◌}
+use Rattle.std.proofs.Common.{◌≡◌, ◌<◌, ◌≤◌, cond, List, ◌∷◌, sym, ap, ◌∙◌}
 use Rattle.std.proofs.lemmas.Bool.{le-leb, lt-leb}
-use Rattle.pile.specs.Sorted.{insert, without_first}
-use Rattle.pile.specs.Order.{Total}
+use Rattle.pile.specs.Sorted.{without_first}
 use Rattle.queue.specs.declared.job.Job.{Job}
-use Rattle.queue.specs.Jobs.{sooner, lowered, spent}
+use Rattle.queue.specs.Jobs.{lowered, spent}
 
 module _ (bag : List Job) (job : Job) (jobs : List Job) (is : bag ≡ job ∷ jobs) where
   -- it had at most one slot left, and goes

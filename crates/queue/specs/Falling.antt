@@ -1,5 +1,5 @@
 -- A row in falling order: its first is at the end.
-use Rattle.std.specs.Prelude.{◌≡◌, ℕ, ◌+◌, ◌<◌, ◌≤◌, Bool, true, false, List, length, drop, slice_index_or}
+use Rattle.std.specs.Prelude.{◌≡◌, ℕ, ◌+◌, ◌<◌, ◌≤◌, Bool, true, false, List, drop, slice_index_or}
 use Rattle.pile.specs.Sorted.{insert}
 use Rattle.pile.specs.Piles.{bag_of}
 

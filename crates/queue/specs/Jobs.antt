@@ -1,5 +1,5 @@
 -- Jobs: which of two runs first, and what the calls of a ready queue do to a bag of jobs.
-use Rattle.std.specs.Prelude.{ℕ, ◌-◌, Bool, true, false, cond, List, [], ◌∷◌, nat_le}
+use Rattle.std.specs.Prelude.{◌-◌, Bool, true, false, cond, List, [], ◌∷◌, nat_le}
 use Rattle.pile.specs.Order.{by, by_then}
 use Rattle.pile.specs.Sorted.{insert}
 use Rattle.queue.specs.declared.job.Job.{Job}

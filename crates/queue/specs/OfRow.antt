@@ -1,5 +1,5 @@
 -- What a row of jobs means as a ready queue.
-use Rattle.std.specs.Prelude.{◌≡◌, ℕ, ◌≤◌, min, List, length, take}
+use Rattle.std.specs.Prelude.{◌≡◌, ℕ, List, length, take}
 use Rattle.std.proofs.Common.{◌∙◌, arith, length-take-le}
 use Rattle.pile.specs.Piles.{places_of, bag_of}
 use Rattle.pile.proofs.Inserting.{length_sorted}

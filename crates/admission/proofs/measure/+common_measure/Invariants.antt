@@ -1,5 +1,5 @@
 use Rattle.admission.proofs.measure.+common_measure.Given as goal
 
 -- the remainder falls
-abbrev pub decreases-common-measure : goal.decreases-common-measure
-decreases-common-measure l = l.b
+abbrev pub decreases-common_measure : goal.decreases-common_measure
+decreases-common_measure l = l.b

@@ -4,21 +4,21 @@ use Rattle.admission.specs.Measure.{multiple_of, LeastCommonMultiple}
 use Rattle.admission.proofs.Measures.{multiple_least}
 use Rattle.admission.proofs.measure.common_multiple.Goals as goal
 
-pub nonzero-div-result : goal.nonzero-div-result
-nonzero-div-result c = pos_of_dvd_of_pos c.common-measure.ensures.greatest.left c.requires.0
+pub nonzero_div-result : goal.nonzero_div-result
+nonzero_div-result c = pos_of_dvd_of_pos c.common_measure.ensures.greatest.left c.requires.0
 
-product : (c : goal.After-common-measure) → c.args.cycle / c.common-measure.result * c.args.length ≤ 10000000000000
+product : (c : goal.After-common_measure) → c.args.cycle / c.common_measure.result * c.args.length ≤ 10000000000000
 product c =
-    let less = div-le_self c.args.cycle c.common-measure.result in
-    let quotient : c.args.cycle / c.common-measure.result ≤ 1000000000 = omega arith in
+    let less = div-le_self c.args.cycle c.common_measure.result in
+    let quotient : c.args.cycle / c.common_measure.result ≤ 1000000000 = omega arith in
     let factor : c.args.length ≤ 10000 = omega arith in
     mul-le-mul quotient factor
 
-pub overflow-mul-result : goal.overflow-mul-result
-overflow-mul-result c = omega (arith, product c)
+pub overflow_mul-result : goal.overflow_mul-result
+overflow_mul-result c = omega (arith, product c)
 
 pub returns : goal.returns
 unfolding multiple_of
 returns c =
-    let same : c.args.cycle / c.common-measure.result * c.args.length ≡ multiple_of c.args.cycle c.args.length = ap (λ g. c.args.cycle / g * c.args.length) c.common-measure.ensures.value in
+    let same : c.args.cycle / c.common_measure.result * c.args.length ≡ multiple_of c.args.cycle c.args.length = ap (λ g. c.args.cycle / g * c.args.length) c.common_measure.ensures.value in
     record { value = same; least = subst (LeastCommonMultiple _ _) (sym same) (multiple_least _ _ c.requires.0); bound = product c }

@@ -8,7 +8,7 @@ abbrev pub invariant-loop-record : goal.invariant-loop-record
 invariant-loop-record l =
     (length l.polls ≡ 32)
     × (length l.lanes ≡ 8)
-    × (l.poll-count ≤ 32)
-    × (l.lane-count ≤ 8)
-    × (take l.poll-count l.polls ++ polls_in (map seen (drop l.record-index l.records)) ≡ polls_in (map seen l.records))
-    × (take l.lane-count l.lanes ++ lanes_in (map seen (drop l.record-index l.records)) ≡ lanes_in (map seen l.records))
+    × (l.poll_count ≤ 32)
+    × (l.lane_count ≤ 8)
+    × (take l.poll_count l.polls ++ polls_in (map seen (drop l.record-index l.records)) ≡ polls_in (map seen l.records))
+    × (take l.lane_count l.lanes ++ lanes_in (map seen (drop l.record-index l.records)) ≡ lanes_in (map seen l.records))

@@ -12,7 +12,7 @@ loop-hole-preserved c =
     let i = l.invariant in
     let t = c.loop-hole-test.true in
     let in' : l.hole - 1 < length l.area = omega arith in
-    filing_steps sooner sooner_total c.args.area.now c.args.count c.args.job c.place-of-place.result l.area l.hole _ c.requires t
+    filing_steps sooner sooner_total c.args.area.now c.args.count c.args.job c.place_of-place.result l.area l.hole _ c.requires t
     (λ d. get_or_default l.area (l.hole - 1) nobody d in') i
 
 pub returns : goal.returns
@@ -20,6 +20,6 @@ returns c =
     let l = c.loop-hole in
     let i = l.invariant in
     record {
-      inserts = filing_ends sooner sooner_total c.args.area.now c.args.count c.args.job c.place-of-place.result l.area l.hole c.requires c.loop-hole-test.false
-          c.place-of-place.ensures.belongs i;
+      inserts = filing_ends sooner sooner_total c.args.area.now c.args.count c.args.job c.place_of-place.result l.area l.hole c.requires c.loop-hole-test.false
+          c.place_of-place.ensures.belongs i;
     }

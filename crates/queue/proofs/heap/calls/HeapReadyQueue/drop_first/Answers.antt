@@ -4,11 +4,11 @@ use Rattle.queue.proofs.heap.calls.HeapReadyQueue.drop_first.Goals as goal
 pub returns : goal.returns
 returns c =
     let heap = c.args.self.now in
-    let after = c.drop-first.new.self in
-    let drops = c.drop-first.ensures.drops in
+    let after = c.drop_first.new.self in
+    let drops = c.drop_first.ensures.drops in
     record {
-      value = drop_value heap after c.drop-first.result drops;
-      bag = drop_bag heap after c.drop-first.result drops;
-      places = drop_places heap after c.drop-first.result drops;
-      whose = c.drop-first.ensures.lender;
+      value = drop_value heap after c.drop_first.result drops;
+      bag = drop_bag heap after c.drop_first.result drops;
+      places = drop_places heap after c.drop_first.result drops;
+      whose = c.drop_first.ensures.lender;
     }

@@ -1,4 +1,4 @@
-use Rattle.std.proofs.Common.{◌<◌, min, sym, refl, ap, ◌∙◌, arith}
+use Rattle.std.proofs.Common.{min, refl, ap, ◌∙◌, arith}
 use Rattle.pile.specs.Piles.{bag_of}
 use Rattle.queue.specs.Jobs.{sooner}
 use Rattle.queue.specs.OfRow.{row_count}

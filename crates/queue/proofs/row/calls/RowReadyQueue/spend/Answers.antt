@@ -9,21 +9,21 @@ returns-then-self-eq0 c =
     let none = row_none c.args.self.now c.if-self-eq0.true in
     record { value = sym (ap is_some_job none); bag = none ∙ sym (ap spent none); places = refl; whose = refl }
 
-pub invariant-of-self-else-is-last-slot : goal.invariant-of-self-else-is-last-slot
-invariant-of-self-else-is-last-slot c =
+pub invariant_of-self-else-is_last_slot : goal.invariant_of-self-else-is_last_slot
+invariant_of-self-else-is_last_slot c =
     let row = c.args.self.now in
     let places = places_set row (row.line.count - 1) (lowered (last_of row)) in
     let w = row.within in
-    (omega arith, (spend_falling row c.if-self-eq0.false (grind (arith, nat_tests)), tt))
+    record { within = omega arith; falling = spend_falling row c.if-self-eq0.false (grind (arith, nat_tests)) }
 
-pub returns-then-is-last-slot : goal.returns-then-is-last-slot
-returns-then-is-last-slot c =
+pub returns-then-is_last_slot : goal.returns-then-is_last_slot
+returns-then-is_last_slot c =
     let row = c.args.self.now in
     let some = c.if-self-eq0.false in
     record { value = row_some row some; bag = spend_leaves row some (grind (arith, nat_tests)); places = refl; whose = refl }
 
-pub returns-else-is-last-slot : goal.returns-else-is-last-slot
-returns-else-is-last-slot c =
+pub returns-else-is_last_slot : goal.returns-else-is_last_slot
+returns-else-is_last_slot c =
     let row = c.args.self.now in
     let some = c.if-self-eq0.false in
     record {
