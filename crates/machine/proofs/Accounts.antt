@@ -1,18 +1,16 @@
 -- The account of a job: what is left of it and what it got make what was born of it, or a report finished it.
-use Rattle.std.proofs.Common.{◌≡◌, ℕ, zero, suc, ◌+◌, ◌-◌, ◌<◌, ◌≤◌, Bool, true, false, cond, ◌&&◌, ◌||◌, eqb, ◌⊎◌, List, [], ◌∷◌, length, Some, None, sym, refl, ap, ◌∙◌, inl, inr, arith}
-use Rattle.std.specs.List.{AllByRecursion as All}
+use Rattle.std.proofs.Common.{◌≡◌, ℕ, suc, ◌+◌, ◌-◌, ◌<◌, ◌≤◌, Bool, true, false, cond, ◌&&◌, ◌||◌, eqb, ◌⊎◌, List, [], ◌∷◌, None, refl, ap, ◌∙◌, inl, inr, arith}
 use Rattle.std.proofs.lemmas.Bool.{or_left, or_right}
 use Rattle.std.proofs.lemmas.Bool.Decides.{nat_tests}
 use Rattle.pile.specs.Sorted.{first_of}
 use Rattle.queue.specs.declared.job.Job.{Job}
-use Rattle.queue.specs.Jobs.{lowered}
 use Rattle.admission.specs.Sums.{sum_of}
 use Rattle.machine.specs.declared.call.Call.{Call}
 use Rattle.machine.specs.declared.call.Call.TheVariants.{Request, Grant, Report}
 use Rattle.machine.specs.declared.call.Outcome.{Outcome}
 use Rattle.machine.specs.declared.call.Outcome.TheVariants.{Used, Finished}
-use Rattle.machine.specs.Lanes.{lane_job, lane_owner}
-use Rattle.machine.specs.Machine.{Setup, State, fresh, refusal_of, moved, said, worked, released, new_deadline, owner_of, deadline_of}
+use Rattle.machine.specs.Lanes.{lane_job}
+use Rattle.machine.specs.Machine.{Setup, State, refusal_of, moved, said, worked, released, new_deadline, owner_of, deadline_of}
 use Rattle.machine.specs.History.{Entry, Slot, after, record_of, last_granted, is_finish, slots_in, went_to, slots_of, was_finished}
 use Rattle.machine.specs.Promises.{Opened}
 use Rattle.machine.proofs.Bags.{Positive, sum_put, sum_put_all, Leaves, Stays, work_ways}

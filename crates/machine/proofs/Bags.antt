@@ -1,13 +1,12 @@
 -- Bags of jobs: sums over them, their order by deadline, and what a closed slot takes from them. Of the order of jobs only its
 -- laws are used.
-use Rattle.std.proofs.Common.{◌≡◌, ℕ, ◌+◌, ◌-◌, ◌<◌, ◌≤◌, Bool, true, false, cond, leb, ◌⊎◌, List, [], ◌∷◌, length, sym, refl, ap, ◌∙◌, subst, inl, inr, arith}
+use Rattle.std.proofs.Common.{◌≡◌, ℕ, ◌+◌, ◌<◌, ◌≤◌, Bool, true, false, cond, leb, ◌⊎◌, List, [], ◌∷◌, length, sym, refl, ap, ◌∙◌, subst, inl, inr, arith}
 use Rattle.std.specs.List.{AllByRecursion as All}
 use Rattle.std.proofs.ByRecursion.{All-weaker}
-use Rattle.std.proofs.lemmas.Bool.{cond_both, leb-true, leb-false, cases_lt, le-leb, lt-leb}
-use Rattle.pile.specs.Sorted.{insert, without_first}
+use Rattle.std.proofs.lemmas.Bool.{cases_lt, le-leb, lt-leb}
 use Rattle.pile.proofs.Inserting.{insert_past, insert_here, insert_none}
 use Rattle.queue.specs.declared.job.Job.{Job}
-use Rattle.queue.specs.Jobs.{sooner, put_job, lowered, spent}
+use Rattle.queue.specs.Jobs.{sooner, put_job, lowered}
 use Rattle.queue.specs.JobOrder.{sooner_total, sooner_due}
 use Rattle.admission.specs.Sums.{sum_of}
 use Rattle.machine.specs.declared.call.Outcome.{Outcome}

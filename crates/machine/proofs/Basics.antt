@@ -1,25 +1,22 @@
 -- The plain facts of every history: what the record says of slot, open mark and token is so, and the bag is in order.
-use Rattle.std.proofs.Common.{◌≡◌, ℕ, suc, ◌+◌, ◌<◌, ◌≤◌, Bool, true, false, cond, List, [], ◌∷◌, map, length, get_or, take, set, Some, None, sym, refl, ap, ◌∙◌, subst, arith, length-set}
+use Rattle.std.proofs.Common.{◌≡◌, ℕ, suc, ◌<◌, true, false, cond, List, [], ◌∷◌, length, None, refl, ap, ◌∙◌, length-set}
 use Rattle.std.specs.List.{AllByRecursion as All}
 use Rattle.std.proofs.ByRecursion.{All-get_or}
 use Rattle.std.proofs.lemmas.List.{length-map}
 use Rattle.std.proofs.lemmas.Bool.{cond_both, both_ways}
 use Rattle.pile.specs.Sorted.{first_of}
-use Rattle.queue.specs.declared.job.Job.{Job}
-use Rattle.queue.specs.Jobs.{lowered}
 use Rattle.admission.specs.declared.table.Poll.{Poll}
 use Rattle.admission.specs.declared.table.Lane.{Lane}
 use Rattle.machine.specs.declared.call.Call.{Call}
 use Rattle.machine.specs.declared.call.Call.TheVariants.{Request, Grant, Report}
-use Rattle.machine.specs.declared.call.Answer.TheVariants.{Refused}
 use Rattle.machine.specs.Polls.{is_released, poll_job, jobs_at}
-use Rattle.machine.specs.Machine.{Setup, State, fresh, refusal_of, moved, said, lane_at, released, owner_of, deadline_of}
+use Rattle.machine.specs.Machine.{Setup, State, refusal_of, moved, said, lane_at, released, owner_of, deadline_of}
 use Rattle.machine.specs.History.{Entry, Slot, after, record_of, slots_closed, slot_is_open, last_granted}
 use Rattle.machine.specs.Promises.{Opened, poll_at}
 use Rattle.machine.proofs.Tables.{Sound, PollLaws, LaneFits, sound}
 use Rattle.machine.proofs.Bags.{Rising, Positive, rising_put, rising_put_all, rising_worked, all_put, all_put_all, positive_worked}
 use Rattle.machine.proofs.Along.{along, entry}
-use Rattle.machine.proofs.Questions.{Asked, request_accepted, grant_accepted, report_accepted}
+use Rattle.machine.proofs.Questions.{request_accepted}
 
 -- the table of an opened unit, and what is known of its lanes and polls
 pub table_of : (m : Setup) → Opened m → Sound m.table

@@ -1,6 +1,6 @@
 -- What was ever born of the job of an owner and a deadline: one release of a poll, or one accepted request. Jobs are weighed by
 -- a function of their slots left: by the slots themselves, or by 1.
-use Rattle.std.proofs.Common.{◌≡◌, ℕ, zero, suc, ◌+◌, ◌*◌, ◌<◌, ◌≤◌, Bool, true, false, cond, ◌&&◌, eqb, ◌⊎◌, List, [], ◌∷◌, length, get_or, sym, refl, ap, ◌∙◌, subst, inl, inr, arith}
+use Rattle.std.proofs.Common.{◌≡◌, ℕ, zero, suc, ◌+◌, ◌<◌, ◌≤◌, Bool, true, false, cond, ◌&&◌, eqb, List, [], ◌∷◌, length, get_or, refl, ap, ◌∙◌, subst, inl, inr, arith}
 use Rattle.std.specs.List.{AllByRecursion as All}
 use Rattle.std.proofs.ByRecursion.{All-weaker}
 use Rattle.std.proofs.lemmas.Bool.{cases_eq, eq-eqb, ne_eqb}
@@ -17,7 +17,6 @@ use Rattle.machine.specs.Polls.{relative_deadline, is_released, poll_job, jobs_a
 use Rattle.machine.specs.Lanes.{lane_owner}
 use Rattle.machine.specs.History.{Entry, Accepted, deadlines_of, deadline_by}
 use Rattle.machine.specs.Promises.{Growing}
-use Rattle.machine.proofs.Along.{entry}
 use Rattle.machine.proofs.Releases.{no_poll, released_none, released_one}
 
 module _ (w : ℕ → ℕ) where

@@ -1,14 +1,12 @@
 -- How many jobs of each owner can stand in the bag: of a poll one, of a lane as many as it has deadlines ahead.
-use Rattle.std.proofs.Common.{◌≡◌, ℕ, zero, suc, ◌+◌, ◌-◌, ◌*◌, ◌<◌, ◌≤◌, Bool, true, false, cond, ◌&&◌, eqb, ltb, ◌⊎◌, List, [], ◌∷◌, map, length, get_or, take, set, None, sym, refl, ap, ◌∙◌, subst, inl, inr, arith, length-take}
+use Rattle.std.proofs.Common.{◌≡◌, ℕ, zero, suc, ◌+◌, ◌<◌, ◌≤◌, Bool, true, false, cond, ◌&&◌, eqb, ltb, ◌⊎◌, List, [], ◌∷◌, length, get_or, take, set, None, sym, refl, ap, ◌∙◌, subst, inl, inr, arith}
 use Rattle.std.specs.List.{AllByRecursion as All}
 use Rattle.std.proofs.ByRecursion.{All-weaker}
 use Rattle.std.proofs.lemmas.List.{get_or-set_same, get_or-set_other}
-use Rattle.std.proofs.lemmas.Bool.{cond_both, cases_eq, cases_lt, ltb-true, ltb-false, lt-ltb, le-ltb}
+use Rattle.std.proofs.lemmas.Bool.{cond_both, cases_eq, cases_lt, lt-ltb, le-ltb}
 use Rattle.std.proofs.lemmas.Bool.Decides.{nat_tests}
 use Rattle.queue.specs.declared.job.Job.{Job}
-use Rattle.queue.specs.Jobs.{lowered}
 use Rattle.admission.specs.declared.table.Poll.{Poll}
-use Rattle.admission.specs.declared.table.Lane.{Lane}
 use Rattle.admission.specs.Contents.{Contents}
 use Rattle.admission.specs.Sums.{sum_of}
 use Rattle.machine.specs.declared.call.Call.{Call}
@@ -17,10 +15,9 @@ use Rattle.machine.specs.declared.call.Outcome.{Outcome}
 use Rattle.machine.specs.Limits.{most_ahead, first_lane}
 use Rattle.machine.specs.Polls.{relative_deadline, is_released, poll_job, jobs_at}
 use Rattle.machine.specs.Lanes.{lane_owner, lane_job, ahead}
-use Rattle.machine.specs.Machine.{Setup, State, fresh, refusal_of, moved, recent_at, released, new_deadline}
+use Rattle.machine.specs.Machine.{Setup, State, refusal_of, moved, recent_at, released, new_deadline}
 use Rattle.machine.specs.History.{Entry, after, record_of, deadlines_of}
 use Rattle.machine.specs.Promises.{Opened, Growing, poll_at}
-use Rattle.machine.proofs.Tables.{PollLaws}
 use Rattle.machine.proofs.Bags.{sum_put, sum_put_all, sum_worked, all_put, all_put_all, all_worked}
 use Rattle.machine.proofs.PollSource.{mark, mark_due}
 use Rattle.machine.proofs.Along.{along}

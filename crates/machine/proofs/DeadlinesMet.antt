@@ -1,5 +1,5 @@
 -- DEADLINES MET: nothing of a job that is due is in the bag, so its account says that it is over.
-use Rattle.std.proofs.Common.{◌≡◌, ℕ, suc, ◌+◌, ◌*◌, ◌<◌, ◌≤◌, Bool, true, false, cond, ◌&&◌, eqb, ◌⊎◌, List, [], ◌∷◌, length, Some, None, sym, refl, ap, ◌∙◌, subst, inl, inr, arith}
+use Rattle.std.proofs.Common.{◌≡◌, ℕ, suc, ◌+◌, ◌*◌, ◌<◌, ◌≤◌, List, [], ◌∷◌, length, None, refl, ◌∙◌, inl, inr, arith}
 use Rattle.std.specs.List.{AllByRecursion as All}
 use Rattle.std.proofs.lemmas.Bool.{cond_both}
 use Rattle.std.proofs.lemmas.Bool.Decides.{nat_tests}
@@ -9,10 +9,10 @@ use Rattle.admission.specs.declared.table.Poll.{Poll}
 use Rattle.admission.specs.Sums.{sum_of}
 use Rattle.machine.specs.declared.call.Call.{Call}
 use Rattle.machine.specs.declared.call.Call.TheVariants.{Request, Grant, Report}
-use Rattle.machine.specs.Limits.{first_lane, nobody}
+use Rattle.machine.specs.Limits.{nobody}
 use Rattle.machine.specs.Lanes.{lane_owner}
 use Rattle.machine.specs.Machine.{Setup, State, refusal_of, said, owner_of, deadline_of}
-use Rattle.machine.specs.History.{Entry, Slot, after, record_of, slots_closed, slots_in, Accepted}
+use Rattle.machine.specs.History.{Slot, after, record_of, slots_closed, slots_in, Accepted}
 use Rattle.machine.specs.Promises.{Opened, poll_at, poll_deadline, Over, DeadlinesMet}
 use Rattle.machine.proofs.PollSource.{released_at}
 use Rattle.machine.proofs.Along.{along, entry}

@@ -1,10 +1,10 @@
 -- EACH PAIR ONE JOB: releases of a poll are a period apart, a lane's deadlines only grow, and owner numbers do not meet.
-use Rattle.std.proofs.Common.{◌≡◌, ℕ, ◌+◌, ◌*◌, ◌<◌, ◌≤◌, ◌⊎◌, List, length, sym, refl, ap, inl, inr, mul-le-mul_right, arith}
+use Rattle.std.proofs.Common.{◌≡◌, ℕ, ◌*◌, ◌≤◌, List, inl, inr, mul-le-mul_right, arith}
 use Rattle.std.proofs.lemmas.Bool.{cases_order}
 use Rattle.machine.specs.declared.call.Call.{Call}
 use Rattle.machine.specs.Machine.{Setup}
 use Rattle.machine.specs.History.{record_of}
-use Rattle.machine.specs.Promises.{Opened, poll_at, poll_deadline, EachPairOneJob}
+use Rattle.machine.specs.Promises.{Opened, poll_at, EachPairOneJob}
 use Rattle.machine.proofs.Basics.{table_of, poll_of}
 use Rattle.machine.proofs.LaneDeadlines.{remembered}
 

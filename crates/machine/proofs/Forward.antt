@@ -1,10 +1,9 @@
 -- Calls with the oldest first: the same history, told the other way round.
-use Rattle.std.proofs.Common.{◌≡◌, List, [], ◌∷◌, map, reverse, sym, refl, ap, ◌∙◌}
+use Rattle.std.proofs.Common.{◌≡◌, List, [], ◌∷◌, reverse, sym, refl, ap, ◌∙◌}
 use mathlib.Core.List.{reverse_aux, reverse-reverse}
 use Rattle.machine.specs.declared.call.Call.{Call}
-use Rattle.machine.specs.declared.call.Answer.{Answer}
 use Rattle.machine.specs.Machine.{Setup, fresh}
-use Rattle.machine.specs.History.{Entry, after, record_of, answers_from, state_from, told_in}
+use Rattle.machine.specs.History.{after, record_of, answers_from, state_from, told_in}
 
 state_on : (m : Setup) (calls older : List Call) → state_from m (after m older) calls ≡ after m (reverse_aux calls older)
 unfolding state_from

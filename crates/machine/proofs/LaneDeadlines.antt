@@ -1,5 +1,5 @@
 -- A lane's accepted deadlines only grow, and the machine remembers the last eight of them.
-use Rattle.std.proofs.Common.{◌≡◌, ℕ, zero, suc, ◌+◌, ◌<◌, ◌≤◌, Bool, true, false, cond, eqb, ◌⊎◌, List, [], ◌∷◌, map, length, get_or, take, set, Some, None, sym, refl, ap, ◌∙◌, subst, inl, inr, arith, take-take}
+use Rattle.std.proofs.Common.{◌≡◌, ℕ, zero, suc, ◌<◌, true, false, eqb, List, [], ◌∷◌, map, get_or, take, set, None, sym, refl, ap, ◌∙◌, inl, inr, arith, take-take}
 use Rattle.std.specs.List.{AllByRecursion as All}
 use Rattle.std.proofs.ByRecursion.{All-weaker}
 use Rattle.std.proofs.lemmas.List.{get_or-set_same, get_or-set_other}
@@ -7,10 +7,10 @@ use Rattle.std.proofs.lemmas.Bool.{cases_eq, eq-eqb, ne_eqb}
 use Rattle.admission.specs.declared.table.Lane.{Lane}
 use Rattle.machine.specs.declared.call.Call.{Call}
 use Rattle.machine.specs.declared.call.Call.TheVariants.{Request, Grant, Report}
-use Rattle.machine.specs.declared.call.Answer.TheVariants.{Deadline, Refused}
+use Rattle.machine.specs.declared.call.Answer.TheVariants.{Deadline}
 use Rattle.machine.specs.Limits.{most_ahead}
-use Rattle.machine.specs.Lanes.{clock_of, due_at}
-use Rattle.machine.specs.Machine.{Setup, State, fresh, refusal_of, moved, said, lane_at, recent_at, new_deadline}
+use Rattle.machine.specs.Lanes.{clock_of}
+use Rattle.machine.specs.Machine.{Setup, State, refusal_of, moved, said, lane_at, recent_at, new_deadline}
 use Rattle.machine.specs.History.{Entry, after, record_of, deadlines_of}
 use Rattle.machine.specs.Promises.{Opened, Growing}
 use Rattle.machine.proofs.LaneRule.{deadline_grows}

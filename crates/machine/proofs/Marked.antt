@@ -1,5 +1,5 @@
 -- A kind of source: it has a mark, the deadline of its newest job, and may bring its rate for every slot past the mark.
-use Rattle.std.proofs.Common.{◌≡◌, ℕ, suc, ◌+◌, ◌-◌, ◌*◌, ◌<◌, ◌≤◌, max, cond, leb, ap, mul-le-mul_left, arith}
+use Rattle.std.proofs.Common.{◌≡◌, ℕ, suc, ◌+◌, ◌-◌, ◌*◌, ◌≤◌, max, cond, leb, ap, mul-le-mul_left, arith}
 use Rattle.std.proofs.lemmas.Bool.{cond_both, leb-true}
 use Rattle.machine.proofs.Earliest.{Source}
 

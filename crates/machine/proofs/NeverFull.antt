@@ -1,5 +1,5 @@
 -- NEVER FULL: each poll has at most one job in the bag, each lane at most eight, so there is always a place.
-use Rattle.std.proofs.Common.{◌≡◌, ℕ, zero, suc, ◌+◌, ◌-◌, ◌*◌, ◌<◌, ◌≤◌, Bool, true, false, cond, not, ◌&&◌, eqb, ltb, leb, ◌⊎◌, List, [], ◌∷◌, length, get_or, take, Some, None, Option, sym, refl, ap, ◌∙◌, subst, inl, inr, arith, length-take}
+use Rattle.std.proofs.Common.{◌≡◌, ℕ, zero, suc, ◌+◌, ◌-◌, ◌*◌, ◌<◌, ◌≤◌, Bool, true, false, cond, not, ◌&&◌, ltb, leb, ◌⊎◌, List, [], ◌∷◌, length, get_or, Some, None, refl, ap, ◌∙◌, inl, inr, arith, length-take}
 use Rattle.std.specs.List.{AllByRecursion as All}
 use Rattle.std.proofs.lemmas.Bool.{cases_eq, le-ltb, ltb-true, ltb-false, leb-false}
 use Rattle.std.proofs.lemmas.Bool.Decides.{nat_tests}
@@ -9,7 +9,6 @@ use Rattle.admission.specs.Contents.{Contents}
 use Rattle.admission.specs.Sums.{sum_of}
 use Rattle.machine.specs.declared.call.Call.{Call}
 use Rattle.machine.specs.declared.call.Call.TheVariants.{Request, Grant, Report}
-use Rattle.machine.specs.declared.call.Outcome.{Outcome}
 use Rattle.machine.specs.declared.call.Answer.TheVariants.{Refused}
 use Rattle.machine.specs.declared.refusal.Refusal.{Refusal}
 use Rattle.machine.specs.declared.refusal.Refusal.TheVariants.{DuringSlot, NoSuchLane, BudgetOutOfRange, LaneAhead, QueueFull, SlotOpen, SlotsUsedUp, NoPlaceForRelease, Unopened, NotThisSlot}
@@ -21,9 +20,9 @@ use Rattle.machine.specs.Machine.{Setup, State, places_for, recent_at, released,
 use Rattle.machine.specs.History.{Entry, after, record_of, deadlines_of}
 use Rattle.machine.specs.Promises.{Opened, poll_at, HasPlace, NeverFull}
 use Rattle.machine.proofs.PollSource.{mark, mark_due}
-use Rattle.machine.proofs.Along.{along, entry}
+use Rattle.machine.proofs.Along.{along}
 use Rattle.machine.proofs.Questions.{not-true}
-use Rattle.machine.proofs.Basics.{table_of, poll_of, upto, upto_shut}
+use Rattle.machine.proofs.Basics.{poll_of, upto, upto_shut}
 use Rattle.machine.proofs.NoneLate.{never_late}
 use Rattle.machine.proofs.LaneDeadlines.{Remembered, remembered}
 use Rattle.machine.proofs.Releases.{no_poll}

@@ -1,20 +1,19 @@
 -- The machine is a run of the sources: its polls and lanes pay for every job, so no job in the bag is ever late.
-use Rattle.std.proofs.Common.{◌≡◌, ℕ, zero, suc, ◌+◌, ◌*◌, ◌<◌, ◌≤◌, Bool, true, false, cond, List, [], ◌∷◌, ◌++◌, map, length, get_or, take, set, None, sym, refl, ap, ◌∙◌, subst, arith}
+use Rattle.std.proofs.Common.{◌≡◌, ℕ, zero, suc, ◌*◌, ◌<◌, ◌≤◌, true, false, List, [], ◌∷◌, ◌++◌, map, get_or, take, set, None, sym, refl, ap, subst, arith}
 use lib.Seq.{map-set}
 use Rattle.std.specs.List.{AllByRecursion as All}
 use Rattle.std.proofs.lemmas.List.{length-map}
 use Rattle.queue.specs.declared.job.Job.{Job}
-use Rattle.admission.specs.declared.table.Lane.{Lane}
 use Rattle.admission.specs.Demand.{lane_slots}
 use Rattle.machine.specs.declared.call.Call.{Call}
 use Rattle.machine.specs.declared.call.Call.TheVariants.{Request, Grant, Report}
 use Rattle.machine.specs.declared.call.Outcome.{Outcome}
 use Rattle.machine.specs.Limits.{most_ahead}
-use Rattle.machine.specs.Lanes.{clock_of, due_at, lane_job}
+use Rattle.machine.specs.Lanes.{clock_of, lane_job}
 use Rattle.machine.specs.Machine.{Setup, State, fresh, refusal_of, moved, lane_at, recent_at, released, new_clock, new_deadline}
 use Rattle.machine.specs.History.{Entry, after, record_of}
 use Rattle.machine.specs.Promises.{Opened}
-use Rattle.machine.proofs.Bags.{work, left_by, sum_put, sum_put_all, worked_serves}
+use Rattle.machine.proofs.Bags.{left_by, sum_put, sum_put_all, worked_serves}
 use Rattle.machine.proofs.Earliest.{Source, Room, rates, rates_append, potentials_append, room_at_first, room_paid, room_served, none_late, sources_of, potentials_set, rates_of}
 use Rattle.machine.proofs.PollSource.{poll_sources, poll_rates, polls_pay}
 use Rattle.machine.proofs.LaneRule.{lane_source, lane_rate, lane_pays}

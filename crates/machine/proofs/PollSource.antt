@@ -1,5 +1,5 @@
 -- A poll is a source of work: its mark is the deadline of its newest job, and releases are a period apart.
-use Rattle.std.proofs.Common.{◌≡◌, ℕ, zero, suc, ◌+◌, ◌-◌, ◌*◌, ◌/◌, ◌%◌, ◌<◌, ◌≤◌, max, Bool, true, false, cond, ◌&&◌, eqb, leb, ◌⊎◌, List, [], ◌∷◌, sym, refl, ap, ◌∙◌, subst, inl, inr, mul-le-mul_left, arith}
+use Rattle.std.proofs.Common.{◌≡◌, ℕ, zero, suc, ◌+◌, ◌-◌, ◌*◌, ◌/◌, ◌%◌, ◌<◌, ◌≤◌, max, Bool, true, false, cond, eqb, leb, List, [], ◌∷◌, refl, ap, ◌∙◌, subst, inl, inr, mul-le-mul_left, arith}
 use native.Mathlib.Nat.{div-add-mod, mul-mod_left}
 use Rattle.std.specs.List.{AllByRecursion as All}
 use Rattle.std.proofs.lemmas.Bool.{cond_both, leb-true, le-leb, eq-eqb, eqb-true, cases_lt, and_parts, and_from}

@@ -1,12 +1,12 @@
 -- What a call that is accepted has shown: every question was answered with yes.
-use Rattle.std.proofs.Common.{◌≡◌, ℕ, ◌+◌, ◌<◌, ◌≤◌, Bool, true, false, not, ◌&&◌, eqb, ltb, leb, length, Some, None, Option, sym, refl, ◌∙◌, arith}
-use Rattle.std.proofs.lemmas.Bool.{and_parts, leb-true, ltb-true, eqb-true}
+use Rattle.std.proofs.Common.{◌≡◌, ℕ, ◌<◌, ◌≤◌, Bool, true, false, not, ◌&&◌, eqb, leb, length, None, Option, sym, refl, arith}
+use Rattle.std.proofs.lemmas.Bool.{and_parts, leb-true, ltb-true}
 use Rattle.machine.specs.declared.call.Call.TheVariants.{Request, Grant, Report}
 use Rattle.machine.specs.declared.call.Outcome.{Outcome}
 use Rattle.machine.specs.declared.refusal.Refusal.{Refusal}
-use Rattle.machine.specs.Limits.{most_budget, most_ahead, slots_in_all}
+use Rattle.machine.specs.Limits.{most_budget, most_ahead}
 use Rattle.machine.specs.Lanes.{ahead}
-use Rattle.machine.specs.Machine.{Setup, State, ask, recent_at, released, refusal_of}
+use Rattle.machine.specs.Machine.{Setup, State, ask, recent_at, refusal_of}
 
 -- an accepted answer: this question's is yes, and so are those of the questions behind it
 answered : (b : Bool) (refusal : Refusal) (behind : Option Refusal) → ask b refusal behind ≡ None → (b ≡ true) × (behind ≡ None)

@@ -1,5 +1,5 @@
 -- SECTIONS APART: a lane's answers can be worked out from its own requests alone.
-use Rattle.std.proofs.Common.{◌≡◌, ℕ, zero, suc, ◌<◌, ◌≤◌, Bool, true, false, cond, not, ◌&&◌, eqb, ltb, leb, ◌⊎◌, List, [], ◌∷◌, map, length, get_or, take, set, Some, None, Option, sym, refl, ap, ◌∙◌, subst, inl, inr, arith}
+use Rattle.std.proofs.Common.{◌≡◌, ℕ, zero, suc, ◌<◌, Bool, true, false, not, ◌&&◌, eqb, ltb, leb, List, [], ◌∷◌, map, length, get_or, take, set, Some, None, Option, sym, refl, ap, ◌∙◌, subst, inl, inr, arith}
 use Rattle.std.proofs.lemmas.List.{get_or-set_same, get_or-set_other}
 use Rattle.std.proofs.lemmas.Bool.{cases_eq, eq-eqb, ne_eqb, lt-ltb}
 use Rattle.admission.specs.declared.table.Lane.{Lane}
@@ -12,11 +12,11 @@ use Rattle.machine.specs.declared.refusal.Refusal.{Refusal}
 use Rattle.machine.specs.declared.refusal.Refusal.TheVariants.{DuringSlot, NoSuchLane, BudgetOutOfRange, LaneAhead, QueueFull}
 use Rattle.machine.specs.Limits.{most_budget, most_ahead}
 use Rattle.machine.specs.Lanes.{clock_of, advance, due_at, ahead}
-use Rattle.machine.specs.Machine.{Setup, State, fresh, ask, lane_at, recent_at, refusal_of, moved, said, new_deadline, by_refusal}
+use Rattle.machine.specs.Machine.{Setup, State, ask, lane_at, recent_at, refusal_of, moved, said, new_deadline, by_refusal}
 use Rattle.machine.specs.History.{Entry, Ask, after, record_of, asked_of, told_back, slots_closed, slot_is_open}
 use Rattle.machine.specs.Promises.{Opened, SectionsApart}
 use Rattle.machine.proofs.Along.{along, entry}
-use Rattle.machine.proofs.Questions.{Asked, request_accepted}
+use Rattle.machine.proofs.Questions.{request_accepted}
 use Rattle.machine.proofs.Basics.{basic}
 use Rattle.machine.proofs.NeverFull.{request_has_place}
 

@@ -1,5 +1,5 @@
 -- SHARE KEPT: what a lane was promised from s on, due by t, fits between s and the earlier of t and its clock.
-use Rattle.std.proofs.Common.{◌≡◌, ℕ, zero, suc, ◌+◌, ◌-◌, ◌*◌, ◌<◌, ◌≤◌, Bool, true, false, cond, ◌&&◌, eqb, leb, ◌⊎◌, List, [], ◌∷◌, map, length, get_or, take, set, None, sym, refl, ap, ◌∙◌, subst, inl, inr, zero-add, arith}
+use Rattle.std.proofs.Common.{◌≡◌, ℕ, zero, suc, ◌+◌, ◌<◌, Bool, cond, ◌&&◌, eqb, leb, List, [], ◌∷◌, map, length, get_or, take, set, None, sym, refl, ap, ◌∙◌, subst, inl, inr, arith}
 use Rattle.std.proofs.lemmas.List.{get_or-set_same, get_or-set_other}
 use Rattle.std.proofs.lemmas.Bool.{cases_eq, and_parts, leb-true}
 use Rattle.std.proofs.lemmas.Bool.Decides.{nat_tests}
@@ -9,7 +9,7 @@ use Rattle.machine.specs.declared.call.Call.TheVariants.{Request, Grant, Report}
 use Rattle.machine.specs.declared.call.Answer.TheVariants.{Deadline}
 use Rattle.machine.specs.Limits.{most_ahead}
 use Rattle.machine.specs.Lanes.{clock_of}
-use Rattle.machine.specs.Machine.{Setup, State, fresh, refusal_of, moved, said, lane_at, recent_at, new_clock, new_deadline}
+use Rattle.machine.specs.Machine.{Setup, State, refusal_of, moved, said, lane_at, recent_at, new_clock, new_deadline}
 use Rattle.machine.specs.History.{Entry, after, record_of, slots_closed, budgets_within}
 use Rattle.machine.specs.Promises.{Opened, ShareKept}
 use Rattle.machine.proofs.LaneRule.{Fit, fit_none, fit_more, fit_share}

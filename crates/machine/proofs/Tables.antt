@@ -1,5 +1,5 @@
 -- What an admissible table says of its polls and lanes: the only ground of all promises.
-use Rattle.std.proofs.Common.{◌≡◌, ℕ, ◌+◌, ◌*◌, ◌/◌, ◌<◌, ◌≤◌, Bool, true, ◌&&◌, leb, List, [], ◌∷◌, ◌++◌, map, length, sym, refl, ap, ◌∙◌, subst, mul_assoc, mul_comm, arith}
+use Rattle.std.proofs.Common.{◌≡◌, ℕ, ◌+◌, ◌*◌, ◌/◌, ◌<◌, ◌≤◌, Bool, true, List, [], ◌∷◌, ◌++◌, map, length, sym, ap, subst, arith}
 use Prim.Native.Nat.{◌∣◌}
 use native.Mathlib.Nat.{mul-div_cancel'}
 use Rattle.std.specs.List.{AllByRecursion as All}
@@ -8,11 +8,11 @@ use Rattle.std.proofs.lemmas.Bool.{and_parts, leb-true}
 use Rattle.admission.specs.declared.table.Poll.{Poll}
 use Rattle.admission.specs.declared.table.Lane.{Lane}
 use Rattle.admission.specs.Limits.{poll_fits, lane_fits, all_fit}
-use Rattle.admission.specs.Demand.{lengths_of, poll_slots, lane_slots}
+use Rattle.admission.specs.Demand.{poll_slots, lane_slots}
 use Rattle.admission.specs.Sums.{sum_of}
 use Rattle.admission.specs.Contents.{Contents, Admissible}
 use Rattle.admission.specs.Laws.{CommonMultiple}
-use Rattle.admission.proofs.Cycles.{Positive, LeastFrom, least_from}
+use Rattle.admission.proofs.Cycles.{Positive, least_from}
 use Rattle.machine.specs.Limits.{first_lane, most_ahead}
 use Rattle.machine.specs.Polls.{relative_deadline}
 

@@ -1,5 +1,5 @@
 -- WITHIN THE BUDGET: a job's account never holds more than was born of it, and a finished job is not in the bag any more.
-use Rattle.std.proofs.Common.{◌≡◌, ℕ, suc, ◌+◌, ◌-◌, ◌*◌, ◌<◌, ◌≤◌, Bool, true, false, cond, ◌&&◌, eqb, ◌⊎◌, List, [], ◌∷◌, length, None, sym, refl, ap, ◌∙◌, subst, inl, inr, arith}
+use Rattle.std.proofs.Common.{◌≡◌, ℕ, ◌-◌, ◌<◌, ◌≤◌, Bool, true, false, cond, List, [], ◌∷◌, length, None, sym, refl, ap, ◌∙◌, subst, inl, inr, arith}
 use Rattle.std.specs.List.{AllByRecursion as All}
 use Rattle.std.proofs.lemmas.Bool.{cases_lt}
 use Rattle.std.proofs.lemmas.Bool.Decides.{nat_tests}
@@ -8,18 +8,17 @@ use Rattle.queue.specs.declared.job.Job.{Job}
 use Rattle.admission.specs.Sums.{sum_of}
 use Rattle.machine.specs.declared.call.Call.{Call}
 use Rattle.machine.specs.declared.call.Call.TheVariants.{Request, Grant, Report}
-use Rattle.machine.specs.declared.call.Answer.{Answer}
 use Rattle.machine.specs.Limits.{first_lane, nobody}
 use Rattle.machine.specs.Lanes.{lane_owner}
-use Rattle.machine.specs.Machine.{Setup, State, refusal_of, said, owner_of, deadline_of}
-use Rattle.machine.specs.History.{Entry, Slot, after, record_of, slots_in, slots_of, was_finished, last_granted, Accepted, deadlines_of}
+use Rattle.machine.specs.Machine.{Setup, refusal_of, said, owner_of, deadline_of}
+use Rattle.machine.specs.History.{after, record_of, slots_in, was_finished, last_granted}
 use Rattle.machine.specs.Promises.{Opened, poll_at, poll_deadline, NoneAfterFinish, WithinBudget}
 use Rattle.machine.proofs.Along.{along, entry}
 use Rattle.machine.proofs.Questions.{report_accepted}
 use Rattle.machine.proofs.Basics.{table_of, poll_of, upto, basic}
 use Rattle.machine.proofs.NoneLate.{never_late}
 use Rattle.machine.proofs.LaneDeadlines.{remembered}
-use Rattle.machine.proofs.Born.{weighed, born_of_polls, born_of_requests, born_of_none, born_of_no_request, born_most, born_accepted, born_once, accepted_has}
+use Rattle.machine.proofs.Born.{weighed, born_of_requests, born_of_none, born_of_no_request, born_most, born_accepted, born_once, accepted_has}
 use Rattle.machine.proofs.Accounts.{by_slots, as_one, born, account}
 
 -- no job is born twice

@@ -1,10 +1,9 @@
 -- THE PROMISES: what holds of every history, read from its record.
-use Rattle.std.specs.Prelude.{◌≡◌, ℕ, ◌+◌, ◌-◌, ◌*◌, ◌<◌, ◌≤◌, Bool, true, false, cond, ◌&&◌, ◌⊎◌, List, [], ◌∷◌, length, ◌≢◌, slice_index_or}
+use Rattle.std.specs.Prelude.{◌≡◌, ℕ, ◌+◌, ◌-◌, ◌*◌, ◌<◌, ◌≤◌, true, false, ◌⊎◌, List, [], ◌∷◌, length, ◌≢◌, slice_index_or}
 use Rattle.std.specs.List.{AllByRecursion as All}
 use Rattle.admission.specs.declared.table.Poll.{Poll}
 use Rattle.admission.specs.Contents.{Contents, Admissible}
 use Rattle.machine.specs.declared.call.Call.{Call}
-use Rattle.machine.specs.declared.call.Call.TheVariants.{Request, Grant, Report}
 use Rattle.machine.specs.declared.call.Answer.{Answer}
 use Rattle.machine.specs.declared.call.Answer.TheVariants.{Deadline, Granted, Reported, Refused}
 use Rattle.machine.specs.Refusals.{refusal_number}
@@ -12,7 +11,7 @@ use Rattle.machine.specs.Limits.{nobody}
 use Rattle.machine.specs.Polls.{relative_deadline}
 use Rattle.machine.specs.Lanes.{lane_owner}
 use Rattle.machine.specs.Machine.{Setup, places_for, lane_at}
-use Rattle.machine.specs.History.{Entry, Slot, record_of, slots_closed, slots_in, slots_of, was_finished, went_to, Accepted, asked_of, told_back, deadlines_of, budgets_within}
+use Rattle.machine.specs.History.{Entry, Slot, record_of, slots_closed, slots_in, slots_of, was_finished, Accepted, asked_of, told_back, deadlines_of, budgets_within}
 
 -- the unit was opened without refusal: its table is admissible, and its queue has the places for it
 pub record Opened (m : Setup) : Type 0 where

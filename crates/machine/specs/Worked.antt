@@ -1,7 +1,5 @@
 -- Two halls and a history of each, worked out: the definitions say what they should, and units that were opened exist.
-use Rattle.std.specs.Prelude.{◌≡◌, ℕ, zero, suc, ◌+◌, true, List, [], ◌∷◌, ◌++◌, map, reverse, replicate}
-use Rattle.admission.specs.declared.table.Poll.{Poll}
-use Rattle.admission.specs.declared.table.Lane.{Lane}
+use Rattle.std.specs.Prelude.{◌≡◌, ℕ, zero, suc, List, [], ◌∷◌, ◌++◌, map, reverse, replicate}
 use Rattle.machine.specs.declared.call.Call.{Call}
 use Rattle.machine.specs.declared.call.Call.TheVariants.{Request, Grant, Report}
 use Rattle.machine.specs.declared.call.Answer.{Answer}

@@ -1,5 +1,5 @@
 -- The page: the verdict, the ground of a refusal, and the records with what each takes of a cycle.
-use Rattle.std.specs.Prelude.{ℕ, ◌+◌, ◌≤◌, Bool, true, false, List, [], ◌∷◌, ◌++◌, Some, None, Ok, Err, codes, decimal, Option, Result}
+use Rattle.std.specs.Prelude.{ℕ, ◌+◌, ◌≤◌, List, [], ◌∷◌, ◌++◌, Some, None, Ok, Err, codes, decimal, Option, Result}
 use Rattle.sheet.specs.declared.fault.Diagnosis.{Diagnosis}
 use Rattle.sheet.specs.declared.fault.Layer.{Layer}
 use Rattle.sheet.specs.declared.fault.Layer.TheVariants.{Bytes as OfBytes, Record as OfRecord, Admission as OfAdmission}

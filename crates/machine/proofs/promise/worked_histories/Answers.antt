@@ -1,4 +1,4 @@
-use Rattle.std.proofs.Common.{refl, arith, lit≤}
+use Rattle.std.proofs.Common.{refl, lit≤}
 use Rattle.pile.specs.Sorted.{insert}
 use Rattle.queue.specs.Jobs.{sooner}
 use Rattle.admission.specs.Measure.{measure_of, multiple_of}
