@@ -83,6 +83,14 @@ def respelled(text, table, pages=False):
     return re.sub(r"`[^`\n]*`", lambda q: NAME.sub(lambda m: table.get(m[0], m[0]), q[0]), text)
 
 
+def plain_imports(text):
+    """A library's word that was brought in as `All`, the name of another of its words, goes by its own name."""
+    if "AllByRecursion as All" not in text:
+        return text
+    text = text.replace("AllByRecursion as All", "AllByRecursion")
+    return re.sub(r"(?<![\w'.-])All(?![\w'-])", "AllByRecursion", text)
+
+
 def main():
     dry = "--dry" in sys.argv
     kept = library_words()
@@ -106,7 +114,7 @@ def main():
         if "/out/" in path:
             continue
         text = open(path, encoding="utf-8").read()
-        new = respelled(text, table)
+        new = plain_imports(respelled(text, table))
         if new != text:
             open(path, "w", encoding="utf-8").write(new)
             changed += 1

@@ -1,6 +1,6 @@
 -- One turn of the loops that add up the cycle and the load: what is left decides, before the turn as after it.
 use Rattle.std.proofs.Common.{◌≡◌, ℕ, ◌+◌, ◌*◌, ◌/◌, ◌<◌, ◌≤◌, cond, leb, List, map, length, get_or, drop, Err, sym, ap, ◌∙◌, subst, add_assoc, mul-le-mul, div-le_self, arith}
-use Rattle.std.specs.List.{AllByRecursion as All}
+use Rattle.std.specs.List.{AllByRecursion}
 use Rattle.std.proofs.lemmas.List.{at_drop_more, drop_more}
 use Rattle.std.proofs.lemmas.Bool.{le-leb, lt-leb}
 use Rattle.sheet.specs.declared.record.Record.{Record}
@@ -32,11 +32,11 @@ slots_small length share cycle h short =
 
 module _ (records : List Record) (i : ℕ) (d : Record) (h : i < length records) where
   -- the record at i is sized, and the others are still within their limits
-  pub sized_more : (length' share' : ℕ) → length' ≡ length_of (seen (get_or records i d)) → share' ≡ share_of (seen (get_or records i d)) → All WithinLimits (map seen (drop i records)) →
-      Sized length' share' × All WithinLimits (map seen (drop (i + 1) records))
+  pub sized_more : (length' share' : ℕ) → length' ≡ length_of (seen (get_or records i d)) → share' ≡ share_of (seen (get_or records i d)) → AllByRecursion WithinLimits (map seen (drop i records)) →
+      Sized length' share' × AllByRecursion WithinLimits (map seen (drop (i + 1) records))
   sized_more length' share' e f all =
       let entry = seen (get_or records i d) in
-      let both : WithinLimits (seen (get_or records i d)) × All WithinLimits (map seen (drop (i + 1) records)) = subst (λ l. All WithinLimits (map seen l)) (drop_more records i d h) all in
+      let both : WithinLimits (seen (get_or records i d)) × AllByRecursion WithinLimits (map seen (drop (i + 1) records)) = subst (λ l. AllByRecursion WithinLimits (map seen l)) (drop_more records i d h) all in
       (subst (λ l. Sized l share') (sym e) (subst (Sized (length_of entry)) (sym f) (sized entry both.0)), both.1)
 
   cycle_step : (cycle length' grown : ℕ) → length' ≡ length_of (seen (get_or records i d)) → grown ≡ multiple_of cycle length' →

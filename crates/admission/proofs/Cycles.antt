@@ -2,7 +2,7 @@
 use Rattle.std.proofs.Common.{◌≡◌, ℕ, ◌<◌, ◌≤◌, List, [], ◌∷◌, ◌++◌, refl, arith}
 use Prim.Native.Nat.{◌∣◌}
 use native.Mathlib.Nat.{dvd_refl, dvd_trans, one-dvd, dvd_antisymm, le_of_dvd}
-use Rattle.std.specs.List.{AllByRecursion as All}
+use Rattle.std.specs.List.{AllByRecursion}
 use Rattle.admission.specs.Measure.{multiple_of}
 use Rattle.admission.specs.Demand.{multiple_of_all}
 use Rattle.admission.specs.Laws.{CommonMultiple, LeastCommon}
@@ -10,7 +10,7 @@ use Rattle.admission.proofs.Measures.{multiple_least, multiple_pos}
 
 -- every length is at least 1
 abbrev pub Positive : List ℕ → Type 0
-Positive lengths = All (λ length. 0 < length) lengths
+Positive lengths = AllByRecursion (λ length. 0 < length) lengths
 
 -- the least common multiple of a number and the lengths
 pub record LeastFrom (start : ℕ) (lengths : List ℕ) (cycle : ℕ) : Type 0 where

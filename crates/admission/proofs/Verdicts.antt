@@ -3,7 +3,7 @@
 use Rattle.std.proofs.Common.{◌≡◌, ℕ, ◌+◌, ◌*◌, ◌/◌, ◌<◌, ◌≤◌, Bool, true, false, cond, leb, ◌↔◌, List, [], ◌∷◌, ◌++◌, is_ok, Ok, Err, sym, refl, ap, ◌∙◌, subst, inl, inr, append_assoc, mul_assoc, mul_comm, mul-le-mul_left, mul-add, arith}
 use Prim.Native.Nat.{◌∣◌}
 use native.Mathlib.Nat.{dvd-mul_right, mul-div_assoc, div-mul_cancel, le_of_mul-le-mul_left, pos_of_dvd_of_pos}
-use Rattle.std.specs.List.{AllByRecursion as All}
+use Rattle.std.specs.List.{AllByRecursion}
 use Rattle.std.proofs.ByRecursion.{All-append}
 use Rattle.std.proofs.lemmas.List.{map-append}
 use Rattle.std.proofs.lemmas.Bool.{le-leb, lt-leb, leb-true, cases_lt}
@@ -22,7 +22,7 @@ use Rattle.admission.proofs.Cycles.{Positive, cycle_is, start_below, multiple_ap
 use Rattle.admission.proofs.Measures.{multiple_pos}
 use Rattle.admission.proofs.Tabled.{cycle_found}
 
-positive : (entries : List Entry) → All WithinLimits entries → Positive (lengths entries)
+positive : (entries : List Entry) → AllByRecursion WithinLimits entries → Positive (lengths entries)
 positive [] h = tt
 positive (entry ∷ entries) h = ((sized entry h.0).some, positive entries h.1)
 

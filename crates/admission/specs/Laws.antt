@@ -1,7 +1,7 @@
 -- What holds of every verdict, in the words of whoever asks for it.
 use Rattle.std.specs.Prelude.{◌≡◌, ℕ, ◌<◌, ◌≤◌, true, ◌↔◌, List, [], ◌∷◌, ◌++◌, is_ok, Ok, Err}
 use Rattle.std.specs.Int.{◌∣◌}
-use Rattle.std.specs.List.{AllByRecursion as All}
+use Rattle.std.specs.List.{AllByRecursion}
 use Rattle.sheet.specs.Entries.{Entry, place_of}
 use Rattle.sheet.specs.Reading.{read_sheet}
 use Rattle.admission.specs.declared.fault.AdmissionFault.TheVariants.{Cycle}
@@ -10,7 +10,7 @@ use Rattle.admission.specs.Verdict.{lengths, load_in, admit_sheet}
 
 -- every length divides it
 abbrev pub CommonMultiple : List ℕ → ℕ → Type 0
-CommonMultiple lengths' n = All (λ length. length ∣ n) lengths'
+CommonMultiple lengths' n = AllByRecursion (λ length. length ∣ n) lengths'
 
 -- and it divides every number that every length divides
 pub record LeastCommon (lengths' : List ℕ) (cycle : ℕ) : Type 0 where

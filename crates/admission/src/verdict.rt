@@ -1,6 +1,6 @@
 // Adds up what a sheet asks for and decides whether it fits.
 ghost use Rattle.std.specs.Prelude.{◌≡◌, ◌≤◌, map, length, IfOk, OnErr};
-ghost use Rattle.std.specs.List.{AllByRecursion as All};
+ghost use Rattle.std.specs.List.{AllByRecursion};
 ghost use Rattle.sheet.specs.Entries.{seen, place_of};
 ghost use Rattle.sheet.specs.Laws.{WithinLimits};
 ghost use Rattle.admission.specs.Contents.{contents};
@@ -45,7 +45,7 @@ fn place_of(record: Record<'_>) -> usize
 
 // The least common multiple of all periods and spans.
 fn cycle_of(records: &[Record<'_>]) -> Result<u64, AdmissionFault>
-    requires { All WithinLimits (map seen records.now) }
+    requires { AllByRecursion WithinLimits (map seen records.now) }
     ensures value { result ≡ cycle_from 1 (map seen records.now) }
     ensures bound { IfOk result (λ cycle. cycle ≤ 1000000000) }
 {
@@ -64,7 +64,7 @@ fn cycle_of(records: &[Record<'_>]) -> Result<u64, AdmissionFault>
 
 // The slots that all polls and lanes take of a cycle.
 fn load_of(records: &[Record<'_>], cycle: u64) -> u64
-    requires { (All WithinLimits (map seen records.now)) × ((length records.now ≤ 40) × (cycle ≤ 1000000000)) }
+    requires { (AllByRecursion WithinLimits (map seen records.now)) × ((length records.now ≤ 40) × (cycle ≤ 1000000000)) }
     ensures value { result ≡ load_in cycle (map seen records.now) }
 {
     let mut load = 0;

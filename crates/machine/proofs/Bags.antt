@@ -1,7 +1,7 @@
 -- Bags of jobs: sums over them, their order by deadline, and what a closed slot takes from them. Of the order of jobs only its
 -- laws are used.
 use Rattle.std.proofs.Common.{◌≡◌, ℕ, ◌+◌, ◌<◌, ◌≤◌, Bool, true, false, cond, leb, ◌⊎◌, List, [], ◌∷◌, length, sym, refl, ap, ◌∙◌, subst, inl, inr, arith}
-use Rattle.std.specs.List.{AllByRecursion as All}
+use Rattle.std.specs.List.{AllByRecursion}
 use Rattle.std.proofs.ByRecursion.{All-weaker}
 use Rattle.std.proofs.lemmas.Bool.{cases_lt, le-leb, lt-leb}
 use Rattle.pile.proofs.Inserting.{insert_past, insert_here, insert_none}
@@ -36,11 +36,11 @@ sum_put f job (first ∷ jobs) = go (sum_put f job jobs) (put_ways job first job
     go h (inl w) = ap (sum_of f) w.1 ∙ omega (arith, h)
     go h (inr w) = ap (sum_of f) w.1
 
-pub all_put : (P : Job → Type 0) (job : Job) (jobs : List Job) → P job → All P jobs → All P (put_job job jobs)
-all_put P job [] p h = subst (All P) (sym (insert_none sooner job)) (p, tt)
+pub all_put : (P : Job → Type 0) (job : Job) (jobs : List Job) → P job → AllByRecursion P jobs → AllByRecursion P (put_job job jobs)
+all_put P job [] p h = subst (AllByRecursion P) (sym (insert_none sooner job)) (p, tt)
 all_put P job (first ∷ jobs) p h = elim (put_ways job first jobs) [
-  | inl w ↦ subst (All P) (sym w.1) (h.0, all_put P job jobs p h.1)
-  | inr w ↦ subst (All P) (sym w.1) (p, h)
+  | inl w ↦ subst (AllByRecursion P) (sym w.1) (h.0, all_put P job jobs p h.1)
+  | inr w ↦ subst (AllByRecursion P) (sym w.1) (p, h)
 ]
 
 pub sum_put_all : (f : Job → ℕ) (jobs bag : List Job) → sum_of f (put_all jobs bag) ≡ sum_of f jobs + sum_of f bag
@@ -48,7 +48,7 @@ unfolding put_all
 sum_put_all f [] bag = omega arith
 sum_put_all f (job ∷ jobs) bag = omega (arith, sum_put f job (put_all jobs bag), sum_put_all f jobs bag)
 
-pub all_put_all : (P : Job → Type 0) (jobs bag : List Job) → All P jobs → All P bag → All P (put_all jobs bag)
+pub all_put_all : (P : Job → Type 0) (jobs bag : List Job) → AllByRecursion P jobs → AllByRecursion P bag → AllByRecursion P (put_all jobs bag)
 unfolding put_all
 all_put_all P [] bag d e = e
 all_put_all P (job ∷ jobs) bag d e = all_put P job (put_all jobs bag) d.0 (all_put_all P jobs bag d.1 e)
@@ -71,7 +71,7 @@ not_sooner_due x y h = go (sooner y x) refl
 -- no job is due before one in front of it
 abbrev pub Rising : List Job → Type 0
 Rising [] = Unit {0}
-Rising (job ∷ jobs) = All (λ later. job.deadline ≤ later.deadline) jobs × Rising jobs
+Rising (job ∷ jobs) = AllByRecursion (λ later. job.deadline ≤ later.deadline) jobs × Rising jobs
 
 pub rising_put : (job : Job) (jobs : List Job) → Rising jobs → Rising (put_job job jobs)
 rising_put job [] r = subst Rising (sym (insert_none sooner job)) (tt, tt)
@@ -108,12 +108,12 @@ work_ways Used job jobs = elim (cases_lt 1 job.left) [
 ]
 
 -- what holds of jobs by owner and deadline alone holds after a report
-pub all_worked : (P : Job → Type 0) → ((job : Job) → P job → P (lowered job)) → (outcome : Outcome) (jobs : List Job) → All P jobs → All P (worked outcome jobs)
+pub all_worked : (P : Job → Type 0) → ((job : Job) → P job → P (lowered job)) → (outcome : Outcome) (jobs : List Job) → AllByRecursion P jobs → AllByRecursion P (worked outcome jobs)
 all_worked P f Used [] h = tt
 all_worked P f Finished [] h = tt
 all_worked P f outcome (job ∷ jobs) h = elim (work_ways outcome job jobs) [
-  | inl w ↦ subst (All P) (sym w.is) h.1
-  | inr w ↦ subst (All P) (sym w.is) (f job h.0, h.1)
+  | inl w ↦ subst (AllByRecursion P) (sym w.is) h.1
+  | inr w ↦ subst (AllByRecursion P) (sym w.is) (f job h.0, h.1)
 ]
 
 pub rising_worked : (outcome : Outcome) (jobs : List Job) → Rising jobs → Rising (worked outcome jobs)
@@ -126,7 +126,7 @@ rising_worked outcome (job ∷ jobs) r = elim (work_ways outcome job jobs) [
 
 -- every job has a slot left
 abbrev pub Positive : List Job → Type 0
-Positive jobs = All (λ job. 1 ≤ job.left) jobs
+Positive jobs = AllByRecursion (λ job. 1 ≤ job.left) jobs
 
 pub positive_worked : (outcome : Outcome) (jobs : List Job) → Positive jobs → Positive (worked outcome jobs)
 positive_worked Used [] r = tt
@@ -161,11 +161,11 @@ pub left_later : (x : ℕ) (job : Job) → x < job.deadline → left_by x job �
 left_later x job h = ap (λ b. cond b job.left 0) (lt-leb job.deadline x h)
 
 -- no work is due by x if every job is due later, and the other way round
-no_work : (x : ℕ) (jobs : List Job) → All (λ job. x < job.deadline) jobs → work x jobs ≡ 0
+no_work : (x : ℕ) (jobs : List Job) → AllByRecursion (λ job. x < job.deadline) jobs → work x jobs ≡ 0
 no_work x [] h = refl
 no_work x (job ∷ jobs) h = omega (arith, left_later x job h.0, no_work x jobs h.1)
 
-pub all_later : (x : ℕ) (jobs : List Job) → Positive jobs → work x jobs ≡ 0 → All (λ job. x < job.deadline) jobs
+pub all_later : (x : ℕ) (jobs : List Job) → Positive jobs → work x jobs ≡ 0 → AllByRecursion (λ job. x < job.deadline) jobs
 all_later x [] p e = tt
 all_later x (job ∷ jobs) p e = (elim (cases_lt x job.deadline) [ inl l ↦ l | inr l ↦ absurd (let q = p.0 in omega (arith, left_due x job l)) ], all_later x jobs p.1 (omega arith))
 
@@ -178,7 +178,7 @@ worked_serves x outcome (job ∷ jobs) p r = go (cases_lt x job.deadline) (work_
     go : (x < job.deadline) ⊎ (job.deadline ≤ x) → Leaves outcome job jobs ⊎ Stays outcome job jobs →
         (work x (worked outcome (job ∷ jobs)) + 1 ≤ work x (job ∷ jobs)) ⊎ (work x (worked outcome (job ∷ jobs)) ≡ 0)
     go (inl h) w =
-        let later : All (λ other. x < other.deadline) jobs = All-weaker (λ other. job.deadline ≤ other.deadline) (λ other. x < other.deadline) (λ other l. omega arith) jobs r.0 in
+        let later : AllByRecursion (λ other. x < other.deadline) jobs = All-weaker (λ other. job.deadline ≤ other.deadline) (λ other. x < other.deadline) (λ other l. omega arith) jobs r.0 in
         inr (elim w [ inl l ↦ ap (work x) l.is ∙ no_work x jobs later | inr s ↦ ap (work x) s.is ∙ no_work x (lowered job ∷ jobs) (h, later) ])
     go (inr h) (inl l) = let q = p.0 in inl (omega (arith, ap (work x) l.is, left_due x job h))
     go (inr h) (inr s) = let m = s.more in inl (omega (arith, ap (work x) s.is, left_due x job h, left_due x (lowered job) h))

@@ -1,6 +1,6 @@
 -- The plain facts of every history: what the record says of slot, open mark and token is so, and the bag is in order.
 use Rattle.std.proofs.Common.{◌≡◌, ℕ, suc, ◌<◌, true, false, cond, List, [], ◌∷◌, length, None, refl, ap, ◌∙◌, length-set}
-use Rattle.std.specs.List.{AllByRecursion as All}
+use Rattle.std.specs.List.{AllByRecursion}
 use Rattle.std.proofs.ByRecursion.{All-get_or}
 use Rattle.std.proofs.lemmas.List.{length-map}
 use Rattle.std.proofs.lemmas.Bool.{cond_both, both_ways}
@@ -52,7 +52,7 @@ pub record Basic (m : Setup) (s : State) (es : List Entry) : Type 0 where
   pub positive : Positive s.bag
   pub lanes : length s.recent ≡ length m.table.lanes
 
-jobs_positive : (cycle : ℕ) (polls : List Poll) (i n : ℕ) → All (PollLaws cycle) polls → Positive (jobs_at n i polls)
+jobs_positive : (cycle : ℕ) (polls : List Poll) (i n : ℕ) → AllByRecursion (PollLaws cycle) polls → Positive (jobs_at n i polls)
 unfolding jobs_at
 jobs_positive cycle [] i n laws = tt
 jobs_positive cycle (poll ∷ polls) i n laws =

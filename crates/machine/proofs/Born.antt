@@ -1,7 +1,7 @@
 -- What was ever born of the job of an owner and a deadline: one release of a poll, or one accepted request. Jobs are weighed by
 -- a function of their slots left: by the slots themselves, or by 1.
 use Rattle.std.proofs.Common.{◌≡◌, ℕ, zero, suc, ◌+◌, ◌<◌, ◌≤◌, Bool, true, false, cond, ◌&&◌, eqb, List, [], ◌∷◌, length, get_or, refl, ap, ◌∙◌, subst, inl, inr, arith}
-use Rattle.std.specs.List.{AllByRecursion as All}
+use Rattle.std.specs.List.{AllByRecursion}
 use Rattle.std.proofs.ByRecursion.{All-weaker}
 use Rattle.std.proofs.lemmas.Bool.{cases_eq, eq-eqb, ne_eqb}
 use Rattle.std.proofs.lemmas.Bool.Decides.{nat_tests}
@@ -121,11 +121,11 @@ module _ (w : ℕ → ℕ) where
     by_request k budget d deadline false e = grind (arith, nat_tests)
 
     -- a deadline that the lane was not given brings nothing
-    absent_by : (told : Answer) (call : Call) (deadline : ℕ) (older : List ℕ) → All (λ d. d ≡ deadline → ⊥) (deadline_by told call j older) →
-        (born_by told call (lane_owner j) deadline ≡ 0) × All (λ d. d ≡ deadline → ⊥) older
+    absent_by : (told : Answer) (call : Call) (deadline : ℕ) (older : List ℕ) → AllByRecursion (λ d. d ≡ deadline → ⊥) (deadline_by told call j older) →
+        (born_by told call (lane_owner j) deadline ≡ 0) × AllByRecursion (λ d. d ≡ deadline → ⊥) older
     absent_by (Deadline d) (Request k budget) deadline older h = go (eqb k j) refl h
       where
-        go : (b : Bool) → eqb k j ≡ b → All (λ d. d ≡ deadline → ⊥) (cond b (d ∷ older) older) → (born_by (Deadline d) (Request k budget) (lane_owner j) deadline ≡ 0) × All (λ d. d ≡ deadline → ⊥) older
+        go : (b : Bool) → eqb k j ≡ b → AllByRecursion (λ d. d ≡ deadline → ⊥) (cond b (d ∷ older) older) → (born_by (Deadline d) (Request k budget) (lane_owner j) deadline ≡ 0) × AllByRecursion (λ d. d ≡ deadline → ⊥) older
         go true e g = let ne = g.0 in (by_request k budget d deadline true e ∙ grind (arith, nat_tests), g.1)
         go false e g = (by_request k budget d deadline false e, g)
     absent_by (Deadline d) Grant deadline older h = (refl, h)
@@ -134,18 +134,18 @@ module _ (w : ℕ → ℕ) where
     absent_by Reported call deadline older h = (refl, h)
     absent_by (Refused r) call deadline older h = (refl, h)
 
-    born_absent : (es : List Entry) (deadline : ℕ) → All (λ d. d ≡ deadline → ⊥) (deadlines_of j es) → born_of_requests es (lane_owner j) deadline ≡ 0
+    born_absent : (es : List Entry) (deadline : ℕ) → AllByRecursion (λ d. d ≡ deadline → ⊥) (deadlines_of j es) → born_of_requests es (lane_owner j) deadline ≡ 0
     born_absent [] deadline h = refl
     born_absent (e ∷ es) deadline h = let p = absent_by e.told e.call deadline (deadlines_of j es) h in omega (arith, p.0, born_absent es deadline p.1)
 
-    other_than : (deadline : ℕ) (older : List ℕ) → All (λ d. d < deadline) older → All (λ d. d ≡ deadline → ⊥) older
+    other_than : (deadline : ℕ) (older : List ℕ) → AllByRecursion (λ d. d < deadline) older → AllByRecursion (λ d. d ≡ deadline → ⊥) older
     other_than deadline older h = All-weaker (λ d. d < deadline) (λ d. d ≡ deadline → ⊥) (λ d l e. omega arith) older h
 
     -- what holds of all deadlines of the lane holds of the older ones, and of an accepted one
-    all_older : (P : ℕ → Type 0) (told : Answer) (call : Call) (older : List ℕ) → All P (deadline_by told call j older) → All P older
+    all_older : (P : ℕ → Type 0) (told : Answer) (call : Call) (older : List ℕ) → AllByRecursion P (deadline_by told call j older) → AllByRecursion P older
     all_older P (Deadline d) (Request k budget) older h = go (eqb k j) h
       where
-        go : (b : Bool) → All P (cond b (d ∷ older) older) → All P older
+        go : (b : Bool) → AllByRecursion P (cond b (d ∷ older) older) → AllByRecursion P older
         go true g = g.1
         go false g = g
     all_older P (Deadline d) Grant older h = h
@@ -157,10 +157,10 @@ module _ (w : ℕ → ℕ) where
     own : (budget deadline : ℕ) (older : List ℕ) → deadline_by (Deadline deadline) (Request j budget) j older ≡ deadline ∷ older
     own budget deadline older = ap (λ b. cond b (deadline ∷ older) older) (eq-eqb j j refl)
 
-    pub accepted_has : (P : ℕ → Type 0) (es : List Entry) (budget deadline : ℕ) → Accepted es j budget deadline → All P (deadlines_of j es) → P deadline
+    pub accepted_has : (P : ℕ → Type 0) (es : List Entry) (budget deadline : ℕ) → Accepted es j budget deadline → AllByRecursion P (deadlines_of j es) → P deadline
     accepted_has P [] budget deadline a h = absurd a
     accepted_has P (e ∷ es) budget deadline (inl q) h =
-        subst (λ (x : Entry). All P (deadline_by x.told x.call j (deadlines_of j es)) → P deadline) q (λ g. (subst (All P) (own budget deadline (deadlines_of j es)) g).0) h
+        subst (λ (x : Entry). AllByRecursion P (deadline_by x.told x.call j (deadlines_of j es)) → P deadline) q (λ g. (subst (AllByRecursion P) (own budget deadline (deadlines_of j es)) g).0) h
     accepted_has P (e ∷ es) budget deadline (inr a) h = accepted_has P es budget deadline a (all_older P e.told e.call (deadlines_of j es) h)
 
     growing_older : (told : Answer) (call : Call) (older : List ℕ) → Growing (deadline_by told call j older) → Growing older
@@ -176,7 +176,7 @@ module _ (w : ℕ → ℕ) where
     growing_older (Refused r) call older h = h
 
     -- an entry in front brings nothing of a deadline that was given before
-    nothing_new : (told : Answer) (call : Call) (older : List ℕ) (deadline : ℕ) → Growing (deadline_by told call j older) → ((P : ℕ → Type 0) → All P older → P deadline) →
+    nothing_new : (told : Answer) (call : Call) (older : List ℕ) (deadline : ℕ) → Growing (deadline_by told call j older) → ((P : ℕ → Type 0) → AllByRecursion P older → P deadline) →
         born_by told call (lane_owner j) deadline ≡ 0
     nothing_new (Deadline d) (Request k budget) older deadline g given = go (eqb k j) refl g
       where
@@ -220,7 +220,7 @@ born_once j (e ∷ es) deadline g = go e.told e.call g (born_once j es deadline 
         ways false q r = omega (arith, h, by_request (λ n. 1) j k budget d deadline false q)
         ways true q r = elim (cases_eq d deadline) [
           | inl same ↦
-              let z = born_absent (λ n. 1) j es deadline (other_than (λ n. 1) j deadline (deadlines_of j es) (subst (λ x. All (λ y. y < x) (deadlines_of j es)) same r.0)) in
+              let z = born_absent (λ n. 1) j es deadline (other_than (λ n. 1) j deadline (deadlines_of j es) (subst (λ x. AllByRecursion (λ y. y < x) (deadlines_of j es)) same r.0)) in
               omega (arith, z, by_request (λ n. 1) j k budget d deadline true q, one_most (eqb d deadline))
           | inr other ↦ omega (arith, h, by_request (λ n. 1) j k budget d deadline true q, none_of (eqb d deadline) (ne_eqb d deadline other))
         ]

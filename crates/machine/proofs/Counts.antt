@@ -1,6 +1,6 @@
 -- How many jobs of each owner can stand in the bag: of a poll one, of a lane as many as it has deadlines ahead.
 use Rattle.std.proofs.Common.{◌≡◌, ℕ, zero, suc, ◌+◌, ◌<◌, ◌≤◌, Bool, true, false, cond, ◌&&◌, eqb, ltb, ◌⊎◌, List, [], ◌∷◌, length, get_or, take, set, None, sym, refl, ap, ◌∙◌, subst, inl, inr, arith}
-use Rattle.std.specs.List.{AllByRecursion as All}
+use Rattle.std.specs.List.{AllByRecursion}
 use Rattle.std.proofs.ByRecursion.{All-weaker}
 use Rattle.std.proofs.lemmas.List.{get_or-set_same, get_or-set_other}
 use Rattle.std.proofs.lemmas.Bool.{cond_both, cases_eq, cases_lt, lt-ltb, le-ltb}
@@ -41,7 +41,7 @@ ahead_own owner x job e = grind (arith, nat_tests)
 
 -- DEADLINES AHEAD
 
-ahead_none : (x : ℕ) (deadlines : List ℕ) → All (λ d. d ≤ x) deadlines → ahead x deadlines ≡ 0
+ahead_none : (x : ℕ) (deadlines : List ℕ) → AllByRecursion (λ d. d ≤ x) deadlines → ahead x deadlines ≡ 0
 ahead_none x [] h = refl
 ahead_none x (d ∷ ds) h = omega (arith, ap one_if (le-ltb x d h.0), ahead_none x ds h.1)
 
@@ -71,7 +71,7 @@ growing_taken zero deadlines g = tt
 growing_taken (suc k) [] g = tt
 growing_taken (suc k) (d ∷ ds) g = (all_taken k ds g.0, growing_taken k ds g.1)
   where
-    all_taken : (k : ℕ) (ds : List ℕ) → All (λ e. e < d) ds → All (λ e. e < d) (take k ds)
+    all_taken : (k : ℕ) (ds : List ℕ) → AllByRecursion (λ e. e < d) ds → AllByRecursion (λ e. e < d) (take k ds)
     all_taken zero ds h = tt
     all_taken (suc k) [] h = tt
     all_taken (suc k) (e ∷ es) h = (h.0, all_taken k es h.1)
@@ -82,19 +82,19 @@ growing_taken (suc k) (d ∷ ds) g = (all_taken k ds g.0, growing_taken k ds g.1
 abbrev pub Owned : Contents → Job → Type 0
 Owned table job = (job.owner < length table.polls) ⊎ ((first_lane ≤ job.owner) × (job.owner < first_lane + length table.lanes))
 
-released_owned : (polls : List Poll) (b n top : ℕ) → b + length polls ≤ top → All (λ job. job.owner < top) (jobs_at n b polls)
+released_owned : (polls : List Poll) (b n top : ℕ) → b + length polls ≤ top → AllByRecursion (λ job. job.owner < top) (jobs_at n b polls)
 unfolding jobs_at
 released_owned [] b n top l = tt
 released_owned (poll ∷ polls) b n top l =
     let rest = released_owned polls (suc b) n top (omega arith) in
-    cond_both (is_released n poll) (poll_job n b poll ∷ jobs_at n (suc b) polls) (jobs_at n (suc b) polls) (All (λ job. job.owner < top)) (λ _. (omega arith, rest)) (λ _. rest)
+    cond_both (is_released n poll) (poll_job n b poll ∷ jobs_at n (suc b) polls) (jobs_at n (suc b) polls) (AllByRecursion (λ job. job.owner < top)) (λ _. (omega arith, rest)) (λ _. rest)
 
 -- COUNTS
 
 pub record Counts (m : Setup) (s : State) : Type 0 where
   pub lanes : (j x : ℕ) → s.slot ≤ x → sum_of (is_ahead (lane_owner j) x) s.bag ≤ ahead x (recent_at s j)
   pub polls : (i x : ℕ) → i < length m.table.polls → s.slot ≤ x → sum_of (is_ahead i x) s.bag ≤ one_if (ltb x (mark (poll_at m.table i) (upto s)))
-  pub owned : All (Owned m.table) s.bag
+  pub owned : AllByRecursion (Owned m.table) s.bag
 
 module _ (m : Setup) (o : Opened m) (s : State) (es : List Entry) (c : Counts m s) where
   counts_request : (k budget : ℕ) → Asked m s k budget → Basic m s es → Remembered s es k → Counts m (moved m s (Request k budget))

@@ -1,6 +1,6 @@
 -- DEADLINES MET: nothing of a job that is due is in the bag, so its account says that it is over.
 use Rattle.std.proofs.Common.{◌≡◌, ℕ, suc, ◌+◌, ◌*◌, ◌<◌, ◌≤◌, List, [], ◌∷◌, length, None, refl, ◌∙◌, inl, inr, arith}
-use Rattle.std.specs.List.{AllByRecursion as All}
+use Rattle.std.specs.List.{AllByRecursion}
 use Rattle.std.proofs.lemmas.Bool.{cond_both}
 use Rattle.std.proofs.lemmas.Bool.Decides.{nat_tests}
 use Rattle.pile.specs.Sorted.{first_of}
@@ -24,7 +24,7 @@ use Rattle.machine.proofs.Born.{weighed, born_of_none, born_of_no_request, born_
 use Rattle.machine.proofs.Accounts.{by_slots, born, account}
 
 -- nothing is left of a job that is due by n
-nothing_left : (owner deadline n : ℕ) (jobs : List Job) → deadline ≤ n → All (λ job. n < job.deadline) jobs → sum_of (weighed by_slots owner deadline) jobs ≡ 0
+nothing_left : (owner deadline n : ℕ) (jobs : List Job) → deadline ≤ n → AllByRecursion (λ job. n < job.deadline) jobs → sum_of (weighed by_slots owner deadline) jobs ≡ 0
 nothing_left owner deadline n [] l h = refl
 nothing_left owner deadline n (job ∷ jobs) l h =
     let q : n < job.deadline = h.0 in
@@ -69,9 +69,9 @@ request_over m o calls j budget deadline a l =
 
 -- each slot lies below the deadline of the job that it went to
 abbrev InTime : List Slot → Type 0
-InTime slots = All (λ slot. (slot.owner ≡ nobody → ⊥) → slot.number < slot.deadline) slots
+InTime slots = AllByRecursion (λ slot. (slot.owner ≡ nobody → ⊥) → slot.number < slot.deadline) slots
 
-first_later : (n : ℕ) (jobs : List Job) → All (λ job. n < job.deadline) jobs → (owner_of (first_of jobs) ≡ nobody → ⊥) → n < deadline_of (first_of jobs)
+first_later : (n : ℕ) (jobs : List Job) → AllByRecursion (λ job. n < job.deadline) jobs → (owner_of (first_of jobs) ≡ nobody → ⊥) → n < deadline_of (first_of jobs)
 first_later n [] h ne = absurd (ne refl)
 first_later n (job ∷ jobs) h ne = h.0
 

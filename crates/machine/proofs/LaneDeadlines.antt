@@ -1,6 +1,6 @@
 -- A lane's accepted deadlines only grow, and the machine remembers the last eight of them.
 use Rattle.std.proofs.Common.{◌≡◌, ℕ, zero, suc, ◌<◌, true, false, eqb, List, [], ◌∷◌, map, get_or, take, set, None, sym, refl, ap, ◌∙◌, inl, inr, arith, take-take}
-use Rattle.std.specs.List.{AllByRecursion as All}
+use Rattle.std.specs.List.{AllByRecursion}
 use Rattle.std.proofs.ByRecursion.{All-weaker}
 use Rattle.std.proofs.lemmas.List.{get_or-set_same, get_or-set_other}
 use Rattle.std.proofs.lemmas.Bool.{cases_eq, eq-eqb, ne_eqb}
@@ -21,14 +21,14 @@ use Rattle.machine.proofs.Basics.{lane_of, Basic, basic}
 pub record Remembered (s : State) (es : List Entry) (j : ℕ) : Type 0 where
   pub recent_is : recent_at s j ≡ take most_ahead (deadlines_of j es)
   pub growing : Growing (deadlines_of j es)
-  pub positive : All (λ d. 0 < d) (deadlines_of j es)
+  pub positive : AllByRecursion (λ d. 0 < d) (deadlines_of j es)
 
 -- a new deadline is past the slot and past all earlier ones of its lane
 pub new_deadline_lem : (m : Setup) → Opened m → (s : State) (j budget : ℕ) → Asked m s j budget → (s.slot < new_deadline m s j budget) × (clock_of (recent_at s j) < new_deadline m s j budget)
 new_deadline_lem m o s j budget a = deadline_grows m.table.cycle (lane_at m j) (lane_of m o j a.lane) s.slot (clock_of (recent_at s j)) budget a.some
 
 -- the newest deadline is the largest
-below_newest : (d : ℕ) (deadlines : List ℕ) → Growing deadlines → clock_of (take most_ahead deadlines) < d → All (λ e. e < d) deadlines
+below_newest : (d : ℕ) (deadlines : List ℕ) → Growing deadlines → clock_of (take most_ahead deadlines) < d → AllByRecursion (λ e. e < d) deadlines
 below_newest d [] g l = tt
 below_newest d (newest ∷ older) g l = (l, All-weaker (λ e. e < newest) (λ e. e < d) (λ e h. omega arith) older g.0)
 

@@ -1,6 +1,6 @@
 -- NEVER FULL: each poll has at most one job in the bag, each lane at most eight, so there is always a place.
 use Rattle.std.proofs.Common.{◌≡◌, ℕ, zero, suc, ◌+◌, ◌-◌, ◌*◌, ◌<◌, ◌≤◌, Bool, true, false, cond, not, ◌&&◌, ltb, leb, ◌⊎◌, List, [], ◌∷◌, length, get_or, Some, None, refl, ap, ◌∙◌, inl, inr, arith, length-take}
-use Rattle.std.specs.List.{AllByRecursion as All}
+use Rattle.std.specs.List.{AllByRecursion}
 use Rattle.std.proofs.lemmas.Bool.{cases_eq, le-ltb, ltb-true, ltb-false, leb-false}
 use Rattle.std.proofs.lemmas.Bool.Decides.{nat_tests}
 use Rattle.queue.specs.declared.job.Job.{Job}
@@ -61,7 +61,7 @@ sum_less f c b (suc k) p h l r s = go (λ l' r'. sum_less f c (suc b) k p (λ i 
     go q (inr e) = omega (arith, h b (omega arith) (omega arith), q (omega arith) (omega arith))
 
 -- every job of the bag is counted with its owner
-counted : (table : Contents) (n : ℕ) (jobs : List Job) → All (Owned table) jobs → All (λ job. n < job.deadline) jobs →
+counted : (table : Contents) (n : ℕ) (jobs : List Job) → AllByRecursion (Owned table) jobs → AllByRecursion (λ job. n < job.deadline) jobs →
     length jobs ≤ sum_from (λ owner. sum_of (is_ahead owner n) jobs) 0 (length table.polls) + sum_from (λ owner. sum_of (is_ahead owner n) jobs) first_lane (length table.lanes)
 counted table n [] o l = omega arith
 counted table n (job ∷ jobs) o l =
@@ -94,7 +94,7 @@ releases_fit f (poll ∷ polls) b n h = go (releases_fit f polls (suc b) n (λ i
 
 -- ROOM
 
-module _ (m : Setup) (o : Opened m) (s : State) (es : List Entry) (c : Counts m s) (r : (j : ℕ) → Remembered s es j) (late : All (λ job. s.slot < job.deadline) s.bag) where
+module _ (m : Setup) (o : Opened m) (s : State) (es : List Entry) (c : Counts m s) (r : (j : ℕ) → Remembered s es j) (late : AllByRecursion (λ job. s.slot < job.deadline) s.bag) where
   lane_most : (owner : ℕ) → first_lane ≤ owner → sum_of (is_ahead owner s.slot) s.bag ≤ most_ahead
   lane_most owner l =
       let e : lane_owner (owner - first_lane) ≡ owner = omega arith in

@@ -1,7 +1,7 @@
 -- The machine is a run of the sources: its polls and lanes pay for every job, so no job in the bag is ever late.
 use Rattle.std.proofs.Common.{◌≡◌, ℕ, zero, suc, ◌*◌, ◌<◌, ◌≤◌, true, false, List, [], ◌∷◌, ◌++◌, map, get_or, take, set, None, sym, refl, ap, subst, arith}
 use lib.Seq.{map-set}
-use Rattle.std.specs.List.{AllByRecursion as All}
+use Rattle.std.specs.List.{AllByRecursion}
 use Rattle.std.proofs.lemmas.List.{length-map}
 use Rattle.queue.specs.declared.job.Job.{Job}
 use Rattle.admission.specs.Demand.{lane_slots}
@@ -108,6 +108,6 @@ room m o = along m (λ s es. Roomy m s)
     (λ calls call e r. room_moves m o (after m calls) (record_of m calls) call e (basic m o calls) r)
 
 -- no job in the bag is late
-pub never_late : (m : Setup) → Opened m → (calls : List Call) → All (λ job. (after m calls).slot < job.deadline) (after m calls).bag
+pub never_late : (m : Setup) → Opened m → (calls : List Call) → AllByRecursion (λ job. (after m calls).slot < job.deadline) (after m calls).bag
 never_late m o calls =
     none_late m.table.cycle (after m calls).slot (after m calls).bag (sources m (after m calls)) (table_of m o).some_cycle (basic m o calls).positive (room m o calls)

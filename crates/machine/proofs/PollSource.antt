@@ -1,7 +1,7 @@
 -- A poll is a source of work: its mark is the deadline of its newest job, and releases are a period apart.
 use Rattle.std.proofs.Common.{◌≡◌, ℕ, zero, suc, ◌+◌, ◌-◌, ◌*◌, ◌/◌, ◌%◌, ◌<◌, ◌≤◌, max, Bool, true, false, cond, eqb, leb, List, [], ◌∷◌, refl, ap, ◌∙◌, subst, inl, inr, mul-le-mul_left, arith}
 use native.Mathlib.Nat.{div-add-mod, mul-mod_left}
-use Rattle.std.specs.List.{AllByRecursion as All}
+use Rattle.std.specs.List.{AllByRecursion}
 use Rattle.std.proofs.lemmas.Bool.{cond_both, leb-true, le-leb, eq-eqb, eqb-true, cases_lt, and_parts, and_from}
 use Rattle.admission.specs.declared.table.Poll.{Poll}
 use Rattle.admission.specs.Demand.{poll_slots}
@@ -77,7 +77,7 @@ poll_pays cycle poll laws n i x e =
     subst P q (marked_pays cycle (poll_slots cycle poll) (mark poll n) (relative_deadline poll) poll.budget n x laws.pays)
 
 -- and so do all of them
-pub polls_pay : (cycle n i x : ℕ) (polls : List Poll) → All (PollLaws cycle) polls →
+pub polls_pay : (cycle n i x : ℕ) (polls : List Poll) → AllByRecursion (PollLaws cycle) polls →
     cycle * work x (jobs_at n i polls) + potentials (poll_sources cycle polls (suc n)) n x ≤ potentials (poll_sources cycle polls n) n x
 unfolding jobs_at
 polls_pay cycle n i x [] laws = omega arith

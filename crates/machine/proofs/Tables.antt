@@ -2,7 +2,7 @@
 use Rattle.std.proofs.Common.{◌≡◌, ℕ, ◌+◌, ◌*◌, ◌/◌, ◌<◌, ◌≤◌, Bool, true, List, [], ◌∷◌, ◌++◌, map, length, sym, ap, subst, arith}
 use Prim.Native.Nat.{◌∣◌}
 use native.Mathlib.Nat.{mul-div_cancel'}
-use Rattle.std.specs.List.{AllByRecursion as All}
+use Rattle.std.specs.List.{AllByRecursion}
 use Rattle.std.proofs.ByRecursion.{All-append}
 use Rattle.std.proofs.lemmas.Bool.{and_parts, leb-true}
 use Rattle.admission.specs.declared.table.Poll.{Poll}
@@ -30,8 +30,8 @@ pub record LaneFits (cycle : ℕ) (lane : Lane) : Type 0 where
   pub whole : lane.span * (cycle / lane.span) ≡ cycle
 
 pub record Sound (table : Contents) : Type 0 where
-  pub polls : All (PollLaws table.cycle) table.polls
-  pub lanes : All (LaneFits table.cycle) table.lanes
+  pub polls : AllByRecursion (PollLaws table.cycle) table.polls
+  pub lanes : AllByRecursion (LaneFits table.cycle) table.lanes
   pub few_polls : length table.polls ≤ first_lane
   pub few_lanes : length table.lanes ≤ most_ahead
   pub some_cycle : 1 ≤ table.cycle
@@ -60,28 +60,28 @@ lane_numbers lane h =
     let c = and_parts _ _ b.1 in
     record { some_span = leb-true 1 lane.span a.0; some_quota = leb-true 1 lane.quota c.0 }
 
-all_pass : {X : Type 0} (fits : X → Bool) (P : X → Type 0) → ((x : X) → fits x ≡ true → P x) → (xs : List X) → all_fit fits xs ≡ true → All P xs
+all_pass : {X : Type 0} (fits : X → Bool) (P : X → Type 0) → ((x : X) → fits x ≡ true → P x) → (xs : List X) → all_fit fits xs ≡ true → AllByRecursion P xs
 all_pass fits P f [] h = tt
 all_pass fits P f (x ∷ xs) h = let p = and_parts (fits x) (all_fit fits xs) h in (f x p.0, all_pass fits P f xs p.1)
 
 -- the lengths are positive, and each divides the cycle
-poll_positive : (polls : List Poll) → All PollNumbers polls → Positive (map (λ poll. poll.period) polls)
+poll_positive : (polls : List Poll) → AllByRecursion PollNumbers polls → Positive (map (λ poll. poll.period) polls)
 poll_positive [] h = tt
 poll_positive (poll ∷ polls) h = (h.0.some_period, poll_positive polls h.1)
 
-lane_positive : (lanes : List Lane) → All LaneNumbers lanes → Positive (map (λ lane. lane.span) lanes)
+lane_positive : (lanes : List Lane) → AllByRecursion LaneNumbers lanes → Positive (map (λ lane. lane.span) lanes)
 lane_positive [] h = tt
 lane_positive (lane ∷ lanes) h = (h.0.some_span, lane_positive lanes h.1)
 
-all_front : {X : Type 0} (P : X → Type 0) (xs ys : List X) → All P (xs ++ ys) → All P xs
+all_front : {X : Type 0} (P : X → Type 0) (xs ys : List X) → AllByRecursion P (xs ++ ys) → AllByRecursion P xs
 all_front P [] ys h = tt
 all_front P (x ∷ xs) ys h = (h.0, all_front P xs ys h.1)
 
-all_back : {X : Type 0} (P : X → Type 0) (xs ys : List X) → All P (xs ++ ys) → All P ys
+all_back : {X : Type 0} (P : X → Type 0) (xs ys : List X) → AllByRecursion P (xs ++ ys) → AllByRecursion P ys
 all_back P [] ys h = h
 all_back P (x ∷ xs) ys h = all_back P xs ys h.1
 
-poll_laws : (cycle : ℕ) (polls : List Poll) → All PollNumbers polls → CommonMultiple (map (λ poll. poll.period) polls) cycle → All (PollLaws cycle) polls
+poll_laws : (cycle : ℕ) (polls : List Poll) → AllByRecursion PollNumbers polls → CommonMultiple (map (λ poll. poll.period) polls) cycle → AllByRecursion (PollLaws cycle) polls
 poll_laws cycle [] n d = tt
 poll_laws cycle (poll ∷ polls) n d = (
   record {
@@ -94,7 +94,7 @@ poll_laws cycle (poll ∷ polls) n d = (
   poll_laws cycle polls n.1 d.1,
 )
 
-lane_laws : (cycle : ℕ) (lanes : List Lane) → All LaneNumbers lanes → CommonMultiple (map (λ lane. lane.span) lanes) cycle → All (LaneFits cycle) lanes
+lane_laws : (cycle : ℕ) (lanes : List Lane) → AllByRecursion LaneNumbers lanes → CommonMultiple (map (λ lane. lane.span) lanes) cycle → AllByRecursion (LaneFits cycle) lanes
 lane_laws cycle [] n d = tt
 lane_laws cycle (lane ∷ lanes) n d = (
   record { some_span = n.0.some_span; some_quota = n.0.some_quota; whole = mul-div_cancel' lane.span d.0 },

@@ -1,6 +1,6 @@
 -- WITHIN THE BUDGET: a job's account never holds more than was born of it, and a finished job is not in the bag any more.
 use Rattle.std.proofs.Common.{◌≡◌, ℕ, ◌-◌, ◌<◌, ◌≤◌, Bool, true, false, cond, List, [], ◌∷◌, length, None, sym, refl, ap, ◌∙◌, subst, inl, inr, arith}
-use Rattle.std.specs.List.{AllByRecursion as All}
+use Rattle.std.specs.List.{AllByRecursion}
 use Rattle.std.proofs.lemmas.Bool.{cases_lt}
 use Rattle.std.proofs.lemmas.Bool.Decides.{nat_tests}
 use Rattle.pile.specs.Sorted.{first_of}
@@ -41,7 +41,7 @@ first_counts : (jobs : List Job) → (owner_of (first_of jobs) ≡ nobody → �
 first_counts [] ne = absurd (ne refl)
 first_counts (job ∷ jobs) ne = let z : weighed as_one job.owner job.deadline job ≡ 1 = grind (arith, nat_tests) in omega (arith, z)
 
-first_positive : (n : ℕ) (jobs : List Job) → All (λ job. n < job.deadline) jobs → (owner_of (first_of jobs) ≡ nobody → ⊥) → 0 < deadline_of (first_of jobs)
+first_positive : (n : ℕ) (jobs : List Job) → AllByRecursion (λ job. n < job.deadline) jobs → (owner_of (first_of jobs) ≡ nobody → ⊥) → 0 < deadline_of (first_of jobs)
 first_positive n [] h ne = absurd (ne refl)
 first_positive n (job ∷ jobs) h ne = let q = h.0 in omega arith
 

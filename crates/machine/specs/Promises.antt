@@ -1,6 +1,6 @@
 -- THE PROMISES: what holds of every history, read from its record.
 use Rattle.std.specs.Prelude.{◌≡◌, ℕ, ◌+◌, ◌-◌, ◌*◌, ◌<◌, ◌≤◌, true, false, ◌⊎◌, List, [], ◌∷◌, length, ◌≢◌, slice_index_or}
-use Rattle.std.specs.List.{AllByRecursion as All}
+use Rattle.std.specs.List.{AllByRecursion}
 use Rattle.admission.specs.declared.table.Poll.{Poll}
 use Rattle.admission.specs.Contents.{Contents, Admissible}
 use Rattle.machine.specs.declared.call.Call.{Call}
@@ -37,7 +37,7 @@ Over es owner deadline budget = (was_finished owner deadline (slots_in es) ≡ t
 pub record DeadlinesMet (table : Contents) (es : List Entry) : Type 0 where
   pub polls : (i k : ℕ) → i < length table.polls → poll_deadline (poll_at table i) k ≤ slots_closed es → Over es i (poll_deadline (poll_at table i) k) (poll_at table i).budget
   pub requests : (j budget deadline : ℕ) → Accepted es j budget deadline → deadline ≤ slots_closed es → Over es (lane_owner j) deadline budget
-  pub in_time : All (λ slot. (slot.owner ≢ nobody) → slot.number < slot.deadline) (slots_in es)
+  pub in_time : AllByRecursion (λ slot. (slot.owner ≢ nobody) → slot.number < slot.deadline) (slots_in es)
 
 -- SHARE KEPT
 
@@ -66,14 +66,14 @@ HasPlace Reported = Unit {0}
 HasPlace (Refused refusal) = (refusal_number refusal ≢ 34) × (refusal_number refusal ≢ 42)
 
 abbrev pub NeverFull : List Entry → Type 0
-NeverFull es = All (λ e. HasPlace e.told) es
+NeverFull es = AllByRecursion (λ e. HasPlace e.told) es
 
 -- EACH PAIR ONE JOB
 
 -- each deadline, the newest first, is later than all before it
 abbrev pub Growing : List ℕ → Type 0
 Growing [] = Unit {0}
-Growing (deadline ∷ older) = All (λ d. d < deadline) older × Growing older
+Growing (deadline ∷ older) = AllByRecursion (λ d. d < deadline) older × Growing older
 
 -- no two jobs share owner and deadline, so that 'the job of a slot' is well said
 pub record EachPairOneJob (table : Contents) (es : List Entry) : Type 0 where

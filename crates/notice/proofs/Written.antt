@@ -1,6 +1,6 @@
 -- One more line of the table: what is written and the lines of what is left are the whole.
 use Rattle.std.proofs.Common.{◌≡◌, ℕ, ◌+◌, ◌<◌, ◌≤◌, List, [], ◌++◌, map, length, get_or, drop, Option, sym, ap, ◌∙◌, subst, append_assoc, arith}
-use Rattle.std.specs.List.{AllByRecursion as All}
+use Rattle.std.specs.List.{AllByRecursion}
 use Rattle.std.proofs.lemmas.List.{at_drop_more, at_drop_all, drop_more, append-nil}
 use Rattle.sheet.specs.declared.record.Record.{Record}
 use Rattle.sheet.specs.declared.record.Record.TheVariants.{Poll}
@@ -18,8 +18,8 @@ after_small (poll name phase period budget at) next_poll next_lane = (omega arit
 after_small (lane name span quota at) next_poll next_lane = (omega arith, omega arith)
 
 module _ (records : List Record) (i : ℕ) (d : Record) (h : i < length records) where
-  pub limits_more : All WithinLimits (map seen (drop i records)) → WithinLimits (seen (get_or records i d)) × All WithinLimits (map seen (drop (i + 1) records))
-  limits_more all = subst (λ l. All WithinLimits (map seen l)) (drop_more records i d h) all
+  pub limits_more : AllByRecursion WithinLimits (map seen (drop i records)) → WithinLimits (seen (get_or records i d)) × AllByRecursion WithinLimits (map seen (drop (i + 1) records))
+  limits_more all = subst (λ l. AllByRecursion WithinLimits (map seen l)) (drop_more records i d h) all
 
   pub line_more : (cycle : Option ℕ) (p l owner p' l' : ℕ) (before after line whole : List ℕ) →
       before ++ entry_lines cycle p l (map seen (drop i records)) ≡ whole →

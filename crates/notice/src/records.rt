@@ -1,6 +1,6 @@
 // The records of a sheet in columns, with the slots that each takes of a cycle.
 ghost use Rattle.std.specs.Prelude.{◌≡◌, ◌^◌, ◌<◌, ◌≤◌, ◌++◌, map, length, IfOk, string_bytes, OnOk};
-ghost use Rattle.std.specs.List.{AllByRecursion as All};
+ghost use Rattle.std.specs.List.{AllByRecursion};
 ghost use Rattle.sheet.specs.Entries.{seen};
 ghost use Rattle.sheet.specs.Laws.{WithinLimits};
 ghost use Rattle.sheet.specs.Reading.{read_sheet};
@@ -85,7 +85,7 @@ fn put_records(
     records: &[Record<'_>],
     cycle: Option<u64>,
 ) -> Result<(), AllocError>
-    requires { (All WithinLimits (map seen records.now)) × ((length records.now ≤ 40) × (Short cycle)) }
+    requires { (AllByRecursion WithinLimits (map seen records.now)) × ((length records.now ≤ 40) × (Short cycle)) }
     ensures bytes { OnOk result (out.new.items ≡ out.old.items ++ entry_lines cycle 0 32 (map seen records.now)) }
 {
     let mut next_poll = 0;

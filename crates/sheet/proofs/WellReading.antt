@@ -1,6 +1,6 @@
 -- The records of a sheet that is read are as they should be: one induction carries all that holds of those so far.
 use Rattle.std.proofs.Common.{◌≡◌, ℕ, zero, suc, ◌+◌, ◌≤◌, true, false, cond, not, ltb, leb, List, [], ◌∷◌, ◌++◌, length, take, drop, Ok, Result, sym, refl, ap, ◌∙◌, subst, zero-add, arith, length-drop, length-take-le}
-use Rattle.std.specs.List.{AllByRecursion as All}
+use Rattle.std.specs.List.{AllByRecursion}
 use Rattle.std.specs.Str.{bytes_eq}
 use Rattle.std.proofs.ByRecursion.{All-push}
 use Rattle.std.proofs.lemmas.Slice.Eq.{bytes_eq-Decides}
@@ -76,8 +76,8 @@ length_here kind sheet at h =
 
 -- what holds of the first i records, the last of which ends before `at`
 record Sofar (polls i : ℕ) (earlier : List Entry) (at : ℕ) : Type 0 where
-  limits : All WithinLimits earlier
-  names : All WellNamed earlier
+  limits : AllByRecursion WithinLimits earlier
+  names : AllByRecursion WellNamed earlier
   distinct : Distinct earlier
   tiles : Tiles header_bytes earlier at
   count : length earlier ≡ i

@@ -1,6 +1,6 @@
 -- What holds of every sheet that is read, in the words of whoever wrote it.
 use Rattle.std.specs.Prelude.{◌≡◌, ℕ, zero, suc, ◌+◌, ◌≤◌, true, List, [], ◌∷◌, ◌++◌, length, take, Ok, ◌≢◌}
-use Rattle.std.specs.List.{AllByRecursion as All}
+use Rattle.std.specs.List.{AllByRecursion}
 use Rattle.sheet.specs.declared.reader.Kind.TheVariants.{Poll as OfPoll, Lane as OfLane}
 use Rattle.sheet.specs.Limits.{header_bytes, most_polls, most_lanes, longest_name, latest_phase, longest_span}
 use Rattle.sheet.specs.Header.{claimed_length, claimed_polls, claimed_lanes, length_is_given}
@@ -21,7 +21,7 @@ WellNamed entry = (1 ≤ length (name_of entry)) × (length (name_of entry) ≤ 
 -- no two records have the same name
 abbrev pub Distinct : List Entry → Type 0
 Distinct [] = Unit {0}
-Distinct (entry ∷ entries) = All (λ other. name_of entry ≢ name_of other) entries × Distinct entries
+Distinct (entry ∷ entries) = AllByRecursion (λ other. name_of entry ≢ name_of other) entries × Distinct entries
 
 -- the records lie one behind the other, without a gap, from one byte to another
 abbrev pub Tiles : ℕ → List Entry → ℕ → Type 0
@@ -35,8 +35,8 @@ PollsFirst zero (entry ∷ entries) = (kind_of entry ≡ OfLane) × PollsFirst z
 PollsFirst (suc polls) (entry ∷ entries) = (kind_of entry ≡ OfPoll) × PollsFirst polls entries
 
 pub record WellRead (bytes : List ℕ) (entries : List Entry) : Type 0 where
-  pub limits : All WithinLimits entries
-  pub names : All WellNamed entries
+  pub limits : AllByRecursion WithinLimits entries
+  pub names : AllByRecursion WellNamed entries
   pub distinct : Distinct entries
   pub tiles : Tiles header_bytes entries (claimed_length bytes)
   pub few_polls : claimed_polls bytes ≤ most_polls

@@ -1,5 +1,5 @@
 use Rattle.std.proofs.Common.{◌≡◌, ◌<◌, ◌≤◌, map, drop}
-use Rattle.std.specs.List.{AllByRecursion as All}
+use Rattle.std.specs.List.{AllByRecursion}
 use Rattle.sheet.specs.Entries.{seen}
 use Rattle.sheet.specs.Laws.{WithinLimits}
 use Rattle.admission.specs.Demand.{longest_cycle}
@@ -11,5 +11,5 @@ abbrev pub invariant-loop-record : goal.invariant-loop-record
 invariant-loop-record l =
     (0 < l.cycle)
     × (l.cycle ≤ longest_cycle)
-    × All WithinLimits (map seen (drop l.record-index l.records))
+    × AllByRecursion WithinLimits (map seen (drop l.record-index l.records))
     × (cycle_from l.cycle (map seen (drop l.record-index l.records)) ≡ cycle_from 1 (map seen l.records))

@@ -1,5 +1,5 @@
 use Rattle.std.proofs.Common.{◌≡◌, ◌+◌, ◌*◌, ◌≤◌, map, drop}
-use Rattle.std.specs.List.{AllByRecursion as All}
+use Rattle.std.specs.List.{AllByRecursion}
 use Rattle.sheet.specs.Entries.{seen}
 use Rattle.sheet.specs.Laws.{WithinLimits}
 use Rattle.admission.specs.Verdict.{load_in}
@@ -9,5 +9,5 @@ use Rattle.admission.proofs.verdict.load_of.Given as goal
 abbrev pub invariant-loop-record : goal.invariant-loop-record
 invariant-loop-record l =
     (l.load ≤ 10000000000000 * l.record-index)
-    × All WithinLimits (map seen (drop l.record-index l.records))
+    × AllByRecursion WithinLimits (map seen (drop l.record-index l.records))
     × (l.load + load_in l.cycle (map seen (drop l.record-index l.records)) ≡ load_in l.cycle (map seen l.records))
