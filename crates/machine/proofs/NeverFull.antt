@@ -21,7 +21,7 @@ use Rattle.machine.specs.History.{Entry, after, record_of, deadlines_of}
 use Rattle.machine.specs.Promises.{Opened, poll_at, HasPlace, NeverFull}
 use Rattle.machine.proofs.PollSource.{mark, mark_due}
 use Rattle.machine.proofs.Along.{along}
-use Rattle.machine.proofs.Questions.{not-true}
+use Rattle.std.proofs.lemmas.Bool.{not-true}
 use Rattle.machine.proofs.Basics.{poll_of, upto, upto_shut}
 use Rattle.machine.proofs.NoneLate.{never_late}
 use Rattle.machine.proofs.LaneDeadlines.{Remembered, remembered}

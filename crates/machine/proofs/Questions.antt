@@ -1,5 +1,6 @@
 -- What a call that is accepted has shown: every question was answered with yes.
-use Rattle.std.proofs.Common.{◌≡◌, ℕ, ◌<◌, ◌≤◌, Bool, true, false, not, ◌&&◌, eqb, leb, length, None, Option, sym, refl, arith}
+use Rattle.std.proofs.Common.{◌≡◌, ℕ, ◌<◌, ◌≤◌, Bool, true, false, ◌&&◌, eqb, leb, length, None, Option, refl, arith}
+use Rattle.std.proofs.lemmas.Bool.{not-true}
 use Rattle.std.proofs.lemmas.Bool.{and_parts, leb-true, ltb-true}
 use Rattle.machine.specs.declared.call.Call.TheVariants.{Request, Grant, Report}
 use Rattle.machine.specs.declared.call.Outcome.{Outcome}
@@ -12,10 +13,6 @@ use Rattle.machine.specs.Machine.{Setup, State, ask, recent_at, refusal_of}
 answered : (b : Bool) (refusal : Refusal) (behind : Option Refusal) → ask b refusal behind ≡ None → (b ≡ true) × (behind ≡ None)
 answered true refusal behind e = (refl, e)
 answered false refusal behind e = absurd (let z : ◌≡◌ {A = ℕ} 0 1 = cc in omega arith)
-
-pub not-true : (b : Bool) → not b ≡ true → b ≡ false
-not-true true e = sym e
-not-true false e = refl
 
 pub record Asked (m : Setup) (s : State) (j budget : ℕ) : Type 0 where
   pub shut : s.is_open ≡ false
