@@ -6,7 +6,7 @@ use Rattle.std.proofs.lemmas.Bool.{le-leb, lt-leb}
 use Rattle.sheet.specs.declared.record.Record.{Record}
 use Rattle.sheet.specs.Limits.{longest_span}
 use Rattle.sheet.specs.Entries.{Entry, poll, lane, seen, place_of}
-use Rattle.sheet.specs.Laws.{WithinLimits}
+use Rattle.sheet.specs.Limited.{WithinLimits}
 use Rattle.admission.specs.declared.fault.AdmissionFault.TheVariants.{Cycle}
 use Rattle.admission.specs.Measure.{multiple_of}
 use Rattle.admission.specs.Demand.{longest_cycle}

@@ -2,16 +2,16 @@
 -- load and the counts of the records are those of the polls and the lanes.
 use Rattle.std.proofs.Common.{◌≡◌, ℕ, zero, suc, ◌+◌, ◌-◌, ◌≤◌, Bool, true, false, leb, List, [], ◌∷◌, map, length, Ok, sym, refl, ap, ◌∙◌, subst, arith}
 use Rattle.std.specs.List.{AllByRecursion}
-use Rattle.std.proofs.lemmas.List.{nil_from_length, length-map}
+use Rattle.std.proofs.lemmas.List.{nil_from_length}
 use Rattle.std.proofs.lemmas.Bool.{and_from, le-leb, leb-true}
 use Rattle.sheet.proofs.Answers.{ok_same, cond_ok}
-use Rattle.sheet.specs.declared.reader.Kind.{Kind}
-use Rattle.sheet.specs.declared.reader.Kind.TheVariants.{Poll as OfPoll, Lane as OfLane}
+use Rattle.sheet.specs.declared.kind.Kind.{Kind}
+use Rattle.sheet.specs.declared.kind.Kind.TheVariants.{Poll as OfPoll, Lane as OfLane}
 use Rattle.sheet.specs.Header.{claimed_polls, claimed_lanes}
 use Rattle.sheet.specs.Limits.{latest_phase, longest_span}
-use Rattle.sheet.specs.declared.record.Record.{Record}
-use Rattle.sheet.specs.Entries.{Entry, poll, lane, seen, place_of}
-use Rattle.sheet.specs.Laws.{WithinLimits, PollsFirst, WellRead}
+use Rattle.sheet.specs.Entries.{Entry, poll, lane, place_of}
+use Rattle.sheet.specs.Limited.{WithinLimits}
+use Rattle.sheet.specs.Laws.{PollsFirst, WellRead}
 use Rattle.admission.specs.declared.fault.AdmissionFault.TheVariants.{Cycle}
 use Rattle.admission.specs.Measure.{multiple_of}
 use Rattle.admission.specs.Limits.{poll_fits, lane_fits, all_fit}
@@ -90,6 +90,3 @@ admissible_records bytes entries load cycle h found is light =
       load_is = is ∙ load_split cycle entries;
       light = light;
     }
-
-pub few_records : (bytes : List ℕ) (records : List Record) → WellRead bytes (map seen records) → length records ≤ 40
-few_records bytes records h = let same = length-map records seen in omega (arith, h.count, h.few_polls, h.few_lanes)

@@ -8,7 +8,7 @@ use Rattle.std.proofs.ByRecursion.{All-append}
 use Rattle.std.proofs.lemmas.List.{map-append}
 use Rattle.std.proofs.lemmas.Bool.{le-leb, lt-leb, leb-true, cases_lt}
 use Rattle.sheet.specs.Entries.{Entry, place_of}
-use Rattle.sheet.specs.Laws.{WithinLimits}
+use Rattle.sheet.specs.Limited.{WithinLimits}
 use Rattle.sheet.specs.Reading.{read_sheet, next}
 use Rattle.sheet.proofs.Answers.{ok_same, cond_ok, next_ok}
 use Rattle.sheet.proofs.WellReading.{well_read}

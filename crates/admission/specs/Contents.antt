@@ -1,5 +1,6 @@
 -- What a table holds, by its parts, and what holds of every table.
-use Rattle.std.specs.Prelude.{◌≡◌, ℕ, ◌≤◌, true, List, [], length, take}
+use Rattle.std.specs.Prelude.{◌≡◌, ℕ, ◌≤◌, true, List, [], length}
+use Rattle.few.specs.Elements.{elements}
 use Rattle.sheet.specs.Limits.{most_polls, most_lanes}
 use Rattle.admission.specs.declared.table.Poll.{Poll}
 use Rattle.admission.specs.declared.table.Lane.{Lane}
@@ -15,8 +16,8 @@ pub record Contents : Type 0 where
 
 abbrev pub contents : Table → Contents
 contents table = record {
-  polls = take table.poll_count table.polls;
-  lanes = take table.lane_count table.lanes;
+  polls = elements table.polls;
+  lanes = elements table.lanes;
   load = table.load;
   cycle = table.cycle;
 }

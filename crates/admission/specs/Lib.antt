@@ -1,6 +1,7 @@
 pub mod Sums
 pub mod Measure
 pub mod Faults
+pub mod Grounds
 pub mod Limits
 pub mod Demand
 pub mod Contents

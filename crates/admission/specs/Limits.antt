@@ -1,5 +1,6 @@
 -- The limits of the numbers of polls and lanes, as tests.
-use Rattle.std.specs.Prelude.{Bool, true, ◌&&◌, List, [], ◌∷◌, nat_le}
+use Rattle.std.specs.Prelude.{Bool, ◌&&◌, List, nat_le}
+use Rattle.std.specs.List.{list_all}
 use Rattle.sheet.specs.Limits.{latest_phase, longest_span}
 use Rattle.admission.specs.declared.table.Poll.{Poll}
 use Rattle.admission.specs.declared.table.Lane.{Lane}
@@ -14,5 +15,4 @@ lane_fits lane = nat_le 1 lane.span && (nat_le lane.span longest_span && (nat_le
 
 -- each of the list passes the test
 abbrev pub all_fit : {X : Type 0} → (X → Bool) → List X → Bool
-all_fit fits [] = true
-all_fit fits (x ∷ xs) = fits x && all_fit fits xs
+all_fit fits xs = list_all fits xs

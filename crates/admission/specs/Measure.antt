@@ -1,5 +1,5 @@
 -- The greatest common divisor and the least common multiple of two lengths.
-use Rattle.std.specs.Prelude.{ℕ, zero, suc, ◌*◌, ◌/◌, ◌%◌, cond, ◌==◌}
+use Rattle.std.specs.Prelude.{if◌then◌else◌, ℕ, zero, suc, ◌*◌, ◌/◌, ◌%◌, ◌==◌}
 use Rattle.std.specs.Int.{◌∣◌}
 
 -- it divides both, and every number that divides both divides it
@@ -17,7 +17,7 @@ pub record LeastCommonMultiple (a b multiple : ℕ) : Type 0 where
 -- the common measure by falling remainders, in at most so many steps
 abbrev pub measure_in : ℕ → ℕ → ℕ → ℕ
 measure_in zero a b = a
-measure_in (suc steps) a b = cond (b == 0) a (measure_in steps b (a % b))
+measure_in (suc steps) a b = if b == 0 then a else measure_in steps b (a % b)
 
 -- the remainder falls at each step, so b + 1 steps are enough
 unfoldable pub measure_of : ℕ → ℕ → ℕ

@@ -1,5 +1,5 @@
 -- The verdict on a sheet, and the table that it fills.
-use Rattle.std.specs.Prelude.{ℕ, ◌*◌, ◌/◌, cond, List, [], ◌∷◌, map, Ok, Err, Result, nat_le}
+use Rattle.std.specs.Prelude.{if◌then◌else◌, ℕ, ◌*◌, ◌/◌, List, [], ◌∷◌, map, Ok, Err, Result, nat_le}
 use Rattle.sheet.specs.declared.fault.RecordFault.{RecordFault}
 use Rattle.sheet.specs.Entries.{Entry, poll, lane, place_of}
 use Rattle.sheet.specs.Reading.{next, read_sheet}
@@ -30,9 +30,8 @@ lengths entries = map length_of entries
 abbrev pub cycle_from : ℕ → List Entry → Result ℕ AdmissionFault
 cycle_from cycle [] = Ok cycle
 cycle_from cycle (entry ∷ entries) =
-    cond (nat_le (multiple_of cycle (length_of entry)) longest_cycle)
-    (cycle_from (multiple_of cycle (length_of entry)) entries)
-    (Err (Cycle (place_of entry)))
+    let grown = multiple_of cycle (length_of entry) in
+    if nat_le grown longest_cycle then cycle_from grown entries else Err (Cycle (place_of entry))
 
 -- the slots that a record takes of a cycle, and what all of them take
 abbrev pub slots_of : ℕ → Entry → ℕ
@@ -43,7 +42,9 @@ load_in cycle entries = sum_of (slots_of cycle) entries
 
 -- load and cycle, or 19 if the load is larger
 abbrev pub weighed : List Entry → ℕ → Result (ℕ × ℕ) AdmissionFault
-weighed entries cycle = cond (nat_le (load_in cycle entries) cycle) (Ok (load_in cycle entries, cycle)) (Err (Load (load_in cycle entries) cycle))
+weighed entries cycle =
+    let load = load_in cycle entries in
+    if nat_le load cycle then Ok (load, cycle) else Err (Load load cycle)
 
 abbrev pub verdict : List Entry → Result (ℕ × ℕ) AdmissionFault
 verdict entries = next (cycle_from 1 entries) (weighed entries)

@@ -1,5 +1,7 @@
 // Common measures and common multiples of lengths.
 ghost use Rattle.std.specs.Prelude.{◌≡◌, ◌<◌, ◌≤◌};
+ghost use Rattle.sheet.specs.Limits.{longest_span};
+ghost use Rattle.admission.specs.Demand.{longest_cycle};
 ghost use Rattle.admission.specs.Measure.{GreatestCommonDivisor, LeastCommonMultiple, measure_of, multiple_of};
 
 // The greatest length that measures both, by falling remainders. With 0 it is the other one.
@@ -12,7 +14,9 @@ pub fn common_measure(a: u64, b: u64) -> u64
 
 // The least length that both measure.
 pub(crate) fn common_multiple(cycle: u64, length: u64) -> u64
-    requires { (0 < cycle) × ((cycle ≤ 1000000000) × (length ≤ 10000)) }
+    requires some { 0 < cycle }
+    requires short { cycle ≤ longest_cycle }
+    requires within { length ≤ longest_span }
     ensures value { result ≡ multiple_of cycle length }
     ensures least { LeastCommonMultiple cycle length result }
     ensures bound { result ≤ 10000000000000 }

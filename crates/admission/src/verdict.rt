@@ -1,16 +1,16 @@
 // Adds up what a sheet asks for and decides whether it fits.
-ghost use Rattle.std.specs.Prelude.{◌≡◌, ◌≤◌, map, length, IfOk, OnErr};
-ghost use Rattle.std.specs.List.{AllByRecursion};
-ghost use Rattle.sheet.specs.Entries.{seen, place_of};
-ghost use Rattle.sheet.specs.Laws.{WithinLimits};
+ghost use Rattle.std.specs.Prelude.{◌≡◌, ◌≤◌, IfOk, OnErr};
+ghost use Rattle.sheet.specs.Entries.{seen};
+ghost use Rattle.sheet.specs.Held.{held};
 ghost use Rattle.admission.specs.Contents.{contents};
+ghost use Rattle.admission.specs.Demand.{longest_cycle};
 ghost use Rattle.admission.specs.Laws.{AdmissionLaws};
 ghost use Rattle.admission.specs.Verdict.{length_of, share_of, cycle_from, load_in, admit_sheet, fill_table};
 
 use super::fault::AdmissionFault;
 use super::measure::common_multiple;
 use super::table::Table;
-use sheet::{MOST_RECORDS, NO_RECORD, Record};
+use sheet::{Record, Records};
 
 // The longest cycle that is admitted.
 const LONGEST_CYCLE: u64 = 1_000_000_000;
@@ -20,8 +20,8 @@ pub fn length_of(record: Record<'_>) -> u64
     ensures value { result ≡ length_of (seen «record».entry) }
 {
     match record {
-        Record::Poll { period, .. } => period as u64,
-        Record::Lane { span, .. } => span as u64,
+        Record::Poll { period, .. } => u64::from(period),
+        Record::Lane { span, .. } => u64::from(span),
     }
 }
 
@@ -30,32 +30,21 @@ pub fn share_of(record: Record<'_>) -> u64
     ensures value { result ≡ share_of (seen «record».entry) }
 {
     match record {
-        Record::Poll { budget, .. } => budget as u64,
-        Record::Lane { quota, .. } => quota as u64,
-    }
-}
-
-fn place_of(record: Record<'_>) -> usize
-    ensures value { result ≡ place_of (seen «record».entry) }
-{
-    match record {
-        Record::Poll { at, .. } | Record::Lane { at, .. } => at,
+        Record::Poll { budget, .. } => u64::from(budget),
+        Record::Lane { quota, .. } => u64::from(quota),
     }
 }
 
 // The least common multiple of all periods and spans.
-fn cycle_of(records: &[Record<'_>]) -> Result<u64, AdmissionFault>
-    requires { AllByRecursion WithinLimits (map seen records.now) }
-    ensures value { result ≡ cycle_from 1 (map seen records.now) }
-    ensures bound { IfOk result (λ cycle. cycle ≤ 1000000000) }
+fn cycle_of(records: &Records<'_>) -> Result<u64, AdmissionFault>
+    ensures value { result ≡ cycle_from 1 (held records.now) }
+    ensures bound { IfOk result (λ cycle. cycle ≤ longest_cycle) }
 {
     let mut cycle = 1;
-    for record in records {
+    for record in records.as_slice() {
         let grown = common_multiple(cycle, length_of(*record));
         if grown > LONGEST_CYCLE {
-            return Err(AdmissionFault::Cycle {
-                at: place_of(*record),
-            });
+            return Err(AdmissionFault::Cycle { at: record.at() });
         }
         cycle = grown;
     }
@@ -63,12 +52,12 @@ fn cycle_of(records: &[Record<'_>]) -> Result<u64, AdmissionFault>
 }
 
 // The slots that all polls and lanes take of a cycle.
-fn load_of(records: &[Record<'_>], cycle: u64) -> u64
-    requires { (AllByRecursion WithinLimits (map seen records.now)) × ((length records.now ≤ 40) × (cycle ≤ 1000000000)) }
-    ensures value { result ≡ load_in cycle (map seen records.now) }
+fn load_of(records: &Records<'_>, cycle: u64) -> u64
+    requires short { cycle ≤ longest_cycle }
+    ensures value { result ≡ load_in cycle (held records.now) }
 {
     let mut load = 0;
-    for record in records {
+    for record in records.as_slice() {
         load += share_of(*record) * (cycle / length_of(*record));
     }
     load
@@ -76,20 +65,20 @@ fn load_of(records: &[Record<'_>], cycle: u64) -> u64
 
 // Reads a sheet, adds up its load and its cycle, and answers both; a sheet that is admitted fills the table, and a
 // refusal leaves it as it was.
+#[tactic(auto, using(crate::proofs::Verdicts::admission_laws))]
 pub fn admit(bytes: &[u8], table: &mut Table) -> Result<(u64, u64), AdmissionFault>
     ensures answer { result ≡ admit_sheet bytes.now }
     ensures fills { contents table.new ≡ fill_table bytes.now (contents table.old) }
     ensures stays { OnErr result (table.new ≡ table.old) }
     ensures laws { AdmissionLaws bytes.now }
 {
-    let mut records = [NO_RECORD; MOST_RECORDS];
-    let count = sheet::read(bytes, &mut records)?;
-    let found = &records[0..count];
-    let cycle = cycle_of(found)?;
-    let load = load_of(found, cycle);
+    let mut records = Records::new();
+    sheet::read(bytes, &mut records)?;
+    let cycle = cycle_of(&records)?;
+    let load = load_of(&records, cycle);
     if load > cycle {
         return Err(AdmissionFault::Load { load, cycle });
     }
-    *table = Table::holding(found, load, cycle);
+    *table = Table::holding(&records, load, cycle);
     Ok((load, cycle))
 }

@@ -1,4 +1,5 @@
 pub mod Answers
+pub mod Names
 pub mod Turns
 pub mod Unrolled
 pub mod Judging

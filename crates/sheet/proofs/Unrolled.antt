@@ -1,7 +1,7 @@
 -- Reading a sheet is asking its questions one by one: those of the header, then those of each record.
 use Rattle.std.proofs.Common.{◌≡◌, ℕ, suc, ◌+◌, Bool, true, false, cond, List, [], ◌∷◌, ◌++◌, take, Ok, Err, Result, refl, ap, ◌∙◌}
-use Rattle.sheet.specs.declared.reader.Kind.{Kind}
-use Rattle.sheet.specs.declared.reader.Kind.TheVariants.{Poll as OfPoll, Lane as OfLane}
+use Rattle.sheet.specs.declared.kind.Kind.{Kind}
+use Rattle.sheet.specs.declared.kind.Kind.TheVariants.{Poll as OfPoll, Lane as OfLane}
 use Rattle.sheet.specs.declared.header.Header.{Header}
 use Rattle.sheet.specs.declared.fault.ByteFault.TheVariants.{Length, Version, Counts}
 use Rattle.sheet.specs.declared.fault.RecordFault.{RecordFault}

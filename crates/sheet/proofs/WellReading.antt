@@ -7,8 +7,8 @@ use Rattle.std.proofs.lemmas.Slice.Eq.{bytes_eq-Decides}
 use Rattle.std.proofs.lemmas.List.{length_push}
 use Rattle.std.proofs.lemmas.Bool.{and_parts, or_parts, not-true, both_ways, leb-true, eqb-true, lt-ltb, le-ltb}
 use Rattle.std.proofs.lemmas.Bool.Decides.{nat_tests}
-use Rattle.sheet.specs.declared.reader.Kind.{Kind}
-use Rattle.sheet.specs.declared.reader.Kind.TheVariants.{Poll as OfPoll, Lane as OfLane}
+use Rattle.sheet.specs.declared.kind.Kind.{Kind}
+use Rattle.sheet.specs.declared.kind.Kind.TheVariants.{Poll as OfPoll, Lane as OfLane}
 use Rattle.sheet.specs.declared.fault.RecordFault.{RecordFault}
 use Rattle.sheet.specs.declared.fault.RecordFault.TheVariants.{Ending}
 use Rattle.sheet.specs.Limits.{header_bytes, most_polls, most_lanes, longest_name}
@@ -17,7 +17,8 @@ use Rattle.sheet.specs.Entries.{Entry, kind_of, name_of, names_of, place_of, end
 use Rattle.sheet.specs.Records.{kind_at, claimed_name, name_bytes, name_length_fits, numbers_size, is_plain, is_taken, numbers_fit, ends_at_length}
 use Rattle.sheet.specs.Reading.{numbered, entries_from, read_sheet}
 use Rattle.sheet.specs.Questions.{Question, AllYes, header_questions, record_questions}
-use Rattle.sheet.specs.Laws.{WithinLimits, WellNamed, Distinct, Tiles, PollsFirst, WellRead}
+use Rattle.sheet.specs.Limited.{WithinLimits}
+use Rattle.sheet.specs.Laws.{WellNamed, Distinct, Tiles, PollsFirst, WellRead}
 use Rattle.sheet.proofs.Answers.{ok_same, cond_ok}
 use Rattle.sheet.proofs.Unrolled.{asked, entry_here, here_kind, here_name, here_place, behind, record_asked, entries_claimed, sheet_asked}
 

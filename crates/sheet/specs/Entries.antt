@@ -1,7 +1,7 @@
 -- The records of a sheet by what they say.
 use Rattle.std.specs.Prelude.{ℕ, ◌+◌, List, map, length}
-use Rattle.sheet.specs.declared.reader.Kind.{Kind}
-use Rattle.sheet.specs.declared.reader.Kind.TheVariants.{Poll as OfPoll, Lane as OfLane}
+use Rattle.sheet.specs.declared.kind.Kind.{Kind}
+use Rattle.sheet.specs.declared.kind.Kind.TheVariants.{Poll as OfPoll, Lane as OfLane}
 use Rattle.sheet.specs.declared.record.Record.{Record}
 use Rattle.sheet.specs.declared.record.Record.TheVariants.{Poll, Lane}
 

@@ -1,5 +1,5 @@
 -- The header of a sheet: the number of two bytes, the three questions about the header, and what it says.
-use Rattle.std.specs.Prelude.{ℕ, ◌+◌, ◌*◌, Bool, cond, ◌&&◌, List, length, Ok, Err, Result, ◌==◌, nat_le, nat_lt, slice_index}
+use Rattle.std.specs.Prelude.{if◌then◌else◌, ℕ, ◌+◌, ◌*◌, Bool, ◌&&◌, List, length, Ok, Err, Result, ◌==◌, nat_le, nat_lt, slice_index}
 use Rattle.sheet.specs.declared.header.Header.{Header}
 use Rattle.sheet.specs.declared.fault.ByteFault.{ByteFault}
 use Rattle.sheet.specs.declared.fault.ByteFault.TheVariants.{Length, Version, Counts}
@@ -35,10 +35,9 @@ counts_are_allowed bytes =
 -- what the header says, or the first question that it fails
 abbrev pub header_of : List ℕ → Result Header ByteFault
 header_of bytes =
-    cond (length_is_given bytes)
-    (cond (version_is_one bytes)
-    (cond (counts_are_allowed bytes)
-    (Ok (record { length = claimed_length bytes; polls = claimed_polls bytes; lanes = claimed_lanes bytes }))
-    (Err Counts))
-    (Err Version))
-    (Err Length)
+    if length_is_given bytes then
+    (if version_is_one bytes then
+    (if counts_are_allowed bytes then Ok (record { length = claimed_length bytes; polls = claimed_polls bytes; lanes = claimed_lanes bytes })
+    else Err Counts)
+    else Err Version)
+    else Err Length

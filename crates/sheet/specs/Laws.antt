@@ -1,18 +1,14 @@
 -- What holds of every sheet that is read, in the words of whoever wrote it.
 use Rattle.std.specs.Prelude.{◌≡◌, ℕ, zero, suc, ◌+◌, ◌≤◌, true, List, [], ◌∷◌, ◌++◌, length, take, Ok, ◌≢◌}
 use Rattle.std.specs.List.{AllByRecursion}
-use Rattle.sheet.specs.declared.reader.Kind.TheVariants.{Poll as OfPoll, Lane as OfLane}
-use Rattle.sheet.specs.Limits.{header_bytes, most_polls, most_lanes, longest_name, latest_phase, longest_span}
+use Rattle.sheet.specs.declared.kind.Kind.TheVariants.{Poll as OfPoll, Lane as OfLane}
+use Rattle.sheet.specs.Limits.{header_bytes, most_polls, most_lanes, longest_name}
 use Rattle.sheet.specs.Header.{claimed_length, claimed_polls, claimed_lanes, length_is_given}
-use Rattle.sheet.specs.Entries.{Entry, poll, lane, kind_of, name_of, place_of, end_of}
+use Rattle.sheet.specs.Entries.{Entry, kind_of, name_of, place_of, end_of}
+use Rattle.sheet.specs.Limited.{WithinLimits}
 use Rattle.sheet.specs.Records.{is_plain}
 use Rattle.sheet.specs.Reading.{read_sheet}
 use Rattle.sheet.specs.Questions.{questions, Judged}
-
--- every number lies in its limits
-abbrev pub WithinLimits : Entry → Type 0
-WithinLimits (poll name phase period budget at) = (phase ≤ latest_phase) × (1 ≤ period) × (period ≤ longest_span) × (1 ≤ budget) × (budget ≤ period)
-WithinLimits (lane name span quota at) = (1 ≤ span) × (span ≤ longest_span) × (1 ≤ quota) × (quota ≤ span)
 
 -- a name of 1 to 12 small letters and digits
 abbrev pub WellNamed : Entry → Type 0

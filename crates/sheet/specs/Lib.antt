@@ -1,7 +1,11 @@
 pub mod Limits
+pub mod Kinds
 pub mod Faults
+pub mod Grounds
 pub mod Header
 pub mod Entries
+pub mod Limited
+pub mod Held
 pub mod Records
 pub mod Reading
 pub mod Questions

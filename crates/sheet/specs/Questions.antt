@@ -1,7 +1,7 @@
 -- The questions about a sheet as a list, in their order, and what it means that the first no decides.
 -- The conditions are those of Header and Records; docs/RULES.md has the same list in words.
 use Rattle.std.specs.Prelude.{◌≡◌, ℕ, zero, suc, ◌+◌, Bool, true, false, ◌⊎◌, List, [], ◌∷◌, ◌++◌, take, Ok, Err, Result}
-use Rattle.sheet.specs.declared.reader.Kind.{Kind}
+use Rattle.sheet.specs.declared.kind.Kind.{Kind}
 use Rattle.sheet.specs.declared.fault.ByteFault.TheVariants.{Length, Version, Counts}
 use Rattle.sheet.specs.declared.fault.RecordFault.{RecordFault}
 use Rattle.sheet.specs.declared.fault.RecordFault.TheVariants.{Bytes, Letter, NameLength, Name, Numbers, Ending}

@@ -1,8 +1,9 @@
 -- The questions about one record of a sheet, each a condition on the sheet's bytes.
-use Rattle.std.specs.Prelude.{ℕ, ◌+◌, Bool, true, false, cond, not, ◌&&◌, ◌||◌, List, [], ◌∷◌, length, take, drop, ◌==◌, nat_le, nat_lt, slice_index}
+use Rattle.std.specs.Prelude.{if◌then◌else◌, ℕ, ◌+◌, Bool, not, ◌&&◌, ◌||◌, List, length, take, drop, ◌==◌, nat_le, nat_lt, slice_index}
+use Rattle.std.specs.List.{list_all, list_any}
 use Rattle.std.specs.Str.{bytes_eq}
-use Rattle.sheet.specs.declared.reader.Kind.{Kind}
-use Rattle.sheet.specs.declared.reader.Kind.TheVariants.{Poll as OfPoll, Lane as OfLane}
+use Rattle.sheet.specs.declared.kind.Kind.{Kind}
+use Rattle.sheet.specs.declared.kind.Kind.TheVariants.{Poll as OfPoll, Lane as OfLane}
 use Rattle.sheet.specs.Limits.{longest_name, latest_phase, longest_span}
 use Rattle.sheet.specs.Header.{word_at}
 
@@ -18,7 +19,7 @@ numbers_size OfLane = 4
 
 -- the polls come first
 abbrev pub kind_at : ℕ → ℕ → Kind
-kind_at polls i = cond (nat_lt i polls) OfPoll OfLane
+kind_at polls i = if nat_lt i polls then OfPoll else OfLane
 
 -- the name length that the record at `at` claims, and the bytes of its name
 abbrev pub claimed_name : List ℕ → ℕ → ℕ
@@ -51,12 +52,10 @@ abbrev pub is_plain_byte : ℕ → Bool
 is_plain_byte byte = (nat_le 97 byte && nat_le byte 122) || (nat_le 48 byte && nat_le byte 57)
 
 abbrev pub is_plain : List ℕ → Bool
-is_plain [] = true
-is_plain (byte ∷ bytes) = is_plain_byte byte && is_plain bytes
+is_plain name = list_all is_plain_byte name
 
 abbrev pub is_taken : List ℕ → List (List ℕ) → Bool
-is_taken name [] = false
-is_taken name (other ∷ others) = bytes_eq other name || is_taken name others
+is_taken name others = list_any (λ other. bytes_eq other name) others
 
 -- 15: has the name only a to z and 0 to 9, and has no earlier record that name?
 abbrev pub name_is_allowed : List ℕ → List (List ℕ) → Bool

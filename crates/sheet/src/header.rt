@@ -10,7 +10,7 @@ pub const MOST_POLLS: usize = 32;
 pub const MOST_LANES: usize = 8;
 
 // What the header says, once its three questions are answered with yes.
-#[derive(Clone, Copy)]
+#[derive(Clone, Copy, Debug, PartialEq, Eq)]
 pub struct Header {
     pub length: usize,
     pub polls: usize,
@@ -23,15 +23,15 @@ pub(crate) fn read_header(bytes: &[u8]) -> Result<Header, ByteFault>
     let [length_high, length_low, version, polls, lanes, ..] = bytes else {
         return Err(ByteFault::Length);
     };
-    let length = *length_high as usize * 256 + *length_low as usize;
+    let length = usize::from(u16::from_be_bytes([*length_high, *length_low]));
     if length < 5 || length > bytes.len() {
         return Err(ByteFault::Length);
     }
     if *version != 1 {
         return Err(ByteFault::Version);
     }
-    let polls = *polls as usize;
-    let lanes = *lanes as usize;
+    let polls = usize::from(*polls);
+    let lanes = usize::from(*lanes);
     if polls > MOST_POLLS || lanes > MOST_LANES || polls + lanes == 0 {
         return Err(ByteFault::Counts);
     }

@@ -4,9 +4,14 @@
 
 pub mod fault;
 pub mod header;
+pub mod kind;
+mod place;
 pub mod reader;
 pub mod record;
+pub mod records;
 
 pub use fault::{ByteFault, Diagnosis, Layer, RecordFault};
+pub use kind::Kind;
 pub use reader::read;
-pub use record::{MOST_RECORDS, NO_RECORD, Record};
+pub use record::Record;
+pub use records::{MOST_RECORDS, Records};

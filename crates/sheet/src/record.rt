@@ -1,13 +1,12 @@
-// The records of a sheet. A poll is a periodic job: a board, a clock or a screen that is read again and again. A lane
-// is a section's share of the processor for its own requests.
+// A record of a sheet. A poll is a periodic job: a board, a clock or a screen that is read again and again. A lane is a
+// section's share of the processor for its own requests.
 ghost use Rattle.std.specs.Prelude.{◌≡◌};
-ghost use Rattle.sheet.specs.Entries.{seen, name_of};
+ghost use Rattle.sheet.specs.Entries.{seen, kind_of, name_of, place_of};
 
-// A sheet holds at most so many records: 32 polls and 8 lanes.
-pub const MOST_RECORDS: usize = 40;
+use super::kind::Kind;
 
 // A record, with its name as a part of the sheet and `at`, the byte at which it begins. All times are in slots.
-#[derive(Clone, Copy)]
+#[derive(Clone, Copy, Debug, PartialEq, Eq)]
 pub enum Record<'a> {
     Poll {
         name: &'a [u8],
@@ -24,20 +23,30 @@ pub enum Record<'a> {
     },
 }
 
-// Fills an array of records before a sheet is read into it.
-pub const NO_RECORD: Record<'static> = Record::Lane {
-    name: &[],
-    span: 1,
-    quota: 1,
-    at: 0,
-};
-
 impl<'a> Record<'a> {
+    pub fn kind(self) -> Kind
+        ensures value { result ≡ kind_of (seen self.entry) }
+    {
+        match self {
+            Record::Poll { .. } => Kind::Poll,
+            Record::Lane { .. } => Kind::Lane,
+        }
+    }
+
     pub fn name(self) -> &'a [u8]
         ensures value { result.now ≡ name_of (seen self.entry) }
     {
         match self {
             Record::Poll { name, .. } | Record::Lane { name, .. } => name,
+        }
+    }
+
+    // The byte at which it begins.
+    pub fn at(self) -> usize
+        ensures value { result ≡ place_of (seen self.entry) }
+    {
+        match self {
+            Record::Poll { at, .. } | Record::Lane { at, .. } => at,
         }
     }
 }

@@ -1,52 +1,42 @@
 // Fills a table with the records of a sheet that is admitted.
-ghost use Rattle.std.specs.Prelude.{◌≡◌, map};
-ghost use Rattle.sheet.specs.Entries.{seen};
+ghost use Rattle.std.specs.Prelude.{◌≡◌};
+ghost use Rattle.sheet.specs.Held.{held};
 ghost use Rattle.admission.specs.Contents.{contents, Admissible};
 ghost use Rattle.admission.specs.Verdict.{filled};
 
-use super::{Lane, Poll, Table};
-use sheet::Record;
+use super::{Lane, NO_LANE, NO_POLL, Poll, Table};
+use few::Few;
+use sheet::{Record, Records};
 
 impl Table {
-    // The table that holds these records, with their load and their cycle.
-    pub(crate) fn holding(records: &[Record<'_>], load: u64, cycle: u64) -> Table
-        requires { Admissible (filled (map seen records.now) (load, cycle)) }
-        ensures value { contents result ≡ filled (map seen records.now) (load, cycle) }
+    // The table that holds these records, with their load and their cycle. It has a place for each.
+    pub(crate) fn holding(records: &Records<'_>, load: u64, cycle: u64) -> Table
+        requires admissible { Admissible (filled (held records.now) (load, cycle)) }
+        ensures value { contents result ≡ filled (held records.now) (load, cycle) }
     {
-        let mut polls = [Poll {
-            phase: 0,
-            period: 1,
-            budget: 1,
-        }; 32];
-        let mut poll_count = 0;
-        let mut lanes = [Lane { span: 1, quota: 1 }; 8];
-        let mut lane_count = 0;
-        for record in records {
-            match *record {
+        let mut polls = Few::new(NO_POLL);
+        let mut lanes = Few::new(NO_LANE);
+        for record in records.as_slice() {
+            let placed = match *record {
                 Record::Poll {
                     phase,
                     period,
                     budget,
                     ..
-                } => {
-                    polls[poll_count] = Poll {
+                } => polls
+                    .push(Poll {
                         phase,
                         period,
                         budget,
-                    };
-                    poll_count += 1;
-                }
-                Record::Lane { span, quota, .. } => {
-                    lanes[lane_count] = Lane { span, quota };
-                    lane_count += 1;
-                }
-            }
+                    })
+                    .is_ok(),
+                Record::Lane { span, quota, .. } => lanes.push(Lane { span, quota }).is_ok(),
+            };
+            prove!(placed);
         }
         Table {
             polls,
-            poll_count,
             lanes,
-            lane_count,
             load,
             cycle,
         }

@@ -5,7 +5,7 @@ use Rattle.admission.proofs.Measures.{multiple_least}
 use Rattle.admission.proofs.measure.common_multiple.Goals as goal
 
 pub nonzero_div-result : goal.nonzero_div-result
-nonzero_div-result c = pos_of_dvd_of_pos c.common_measure.ensures.greatest.left c.requires.0
+nonzero_div-result c = pos_of_dvd_of_pos c.common_measure.ensures.greatest.left c.requires.some
 
 product : (c : goal.After-common_measure) → c.args.cycle / c.common_measure.result * c.args.length ≤ 10000000000000
 product c =
@@ -21,4 +21,4 @@ pub returns : goal.returns
 unfolding multiple_of
 returns c =
     let same : c.args.cycle / c.common_measure.result * c.args.length ≡ multiple_of c.args.cycle c.args.length = ap (λ g. c.args.cycle / g * c.args.length) c.common_measure.ensures.value in
-    record { value = same; least = subst (LeastCommonMultiple _ _) (sym same) (multiple_least _ _ c.requires.0); bound = product c }
+    record { value = same; least = subst (LeastCommonMultiple _ _) (sym same) (multiple_least _ _ c.requires.some); bound = product c }

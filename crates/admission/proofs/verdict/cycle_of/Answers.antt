@@ -9,11 +9,11 @@ use Rattle.admission.proofs.verdict.cycle_of.Goals as goal
 pub common_multiple-grown-requires : goal.common_multiple-grown-requires
 common_multiple-grown-requires c =
     let h = sized_more _ _ _ c.loop-record-test.true _ _ c.length_of.ensures.value refl c.loop-record.invariant.2 in
-    (c.loop-record.invariant.0, (c.loop-record.invariant.1, h.0.most))
+    record { some = c.loop-record.invariant.0; short = c.loop-record.invariant.1; within = h.0.most }
 
 pub returns-then-grown-gt-LONGEST_CYCLE : goal.returns-then-grown-gt-LONGEST_CYCLE
 returns-then-grown-gt-LONGEST_CYCLE c =
-    record { value = sym (cycle_past _ _ _ c.loop-record-test.true _ _ _ _ c.length_of.ensures.value c.common_multiple-grown.ensures.value (omega arith) c.place_of.ensures.value) ∙ c.loop-record.invariant.3; bound = tt }
+    record { value = sym (cycle_past _ _ _ c.loop-record-test.true _ _ _ _ c.length_of.ensures.value c.common_multiple-grown.ensures.value (omega arith) c.at.ensures.value) ∙ c.loop-record.invariant.3; bound = tt }
 
 pub loop-record-preserved : goal.loop-record-preserved
 loop-record-preserved c =
@@ -27,6 +27,6 @@ loop-record-preserved c =
 
 pub returns : goal.returns
 returns c = record {
-  value = sym (at_drop_all (λ rest. cycle_from c.loop-record.cycle (map seen rest)) c.args.records.now c.loop-record.record-index (omega arith)) ∙ c.loop-record.invariant.3;
+  value = sym (at_drop_all (λ rest. cycle_from c.loop-record.cycle (map seen rest)) c.as_slice-record-items.result.now c.loop-record.record-index (omega arith)) ∙ c.loop-record.invariant.3;
   bound = c.loop-record.invariant.1;
 }

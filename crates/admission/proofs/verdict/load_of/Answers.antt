@@ -26,5 +26,5 @@ loop-record-preserved c = (
 
 pub returns : goal.returns
 returns c = record {
-  value = sym (add-zero _) ∙ ap (λ n. c.loop-record.load + n) (sym (at_drop_all (λ rest. load_in c.args.cycle (map seen rest)) c.args.records.now c.loop-record.record-index (omega arith))) ∙ c.loop-record.invariant.2;
+  value = sym (add-zero _) ∙ ap (λ n. c.loop-record.load + n) (sym (at_drop_all (λ rest. load_in c.args.cycle (map seen rest)) c.as_slice-record-items.result.now c.loop-record.record-index (omega arith))) ∙ c.loop-record.invariant.2;
 }
