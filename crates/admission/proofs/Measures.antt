@@ -1,28 +1,18 @@
 -- Euclid's step, and the least common multiple that follows from it.
 use Rattle.std.proofs.Common.{◌≡◌, ℕ, zero, suc, ◌+◌, ◌*◌, ◌/◌, ◌%◌, ◌<◌, cond, sym, ap, ◌∙◌, subst, inl, inr, mod-lt, mul_assoc, mul_comm, mul-pos, mul-add, arith}
 use Prim.Native.Nat.{◌∣◌}
-use native.Mathlib.Nat.{dvd_refl, dvd-zero, dvd-mod_iff, dvd_antisymm, dvd-mul_left, dvd-mul_right, dvd-mul_right_of_dvd, dvd-add_iff_right, dvd_of_mul-dvd-mul_right, mul-dvd-mul_right, mul-div_cancel', div-mul_cancel, div-add-mod, pos_of_dvd_of_pos}
+use native.Mathlib.Nat.{dvd-mul_left, dvd-mul_right, dvd-mul_right_of_dvd, dvd-add_iff_right, dvd_of_mul-dvd-mul_right, mul-dvd-mul_right, mul-div_cancel', div-mul_cancel, div-add-mod, pos_of_dvd_of_pos}
 use Rattle.std.proofs.lemmas.Bool.Decides.{eqb_tells}
-use Rattle.admission.specs.Measure.{GreatestCommonDivisor, LeastCommonMultiple, measure_in, measure_of, multiple_of}
-
--- a length and nothing
-pub measure_end : (a b : ℕ) → b ≡ 0 → GreatestCommonDivisor a b a
-measure_end a b e = record { left = dvd_refl a; right = subst (λ n. a ∣ n) (sym e) (dvd-zero a); greatest = λ d p q. p }
-
--- what measures b and the remainder measures a and b
-pub measure_step : (a b g : ℕ) → GreatestCommonDivisor b (a % b) g → GreatestCommonDivisor a b g
-measure_step a b g h =
-    record { left = (dvd-mod_iff g h.left).0 h.right; right = h.left; greatest = λ d p q. h.greatest d q ((dvd-mod_iff d q).1 p) }
-
-measure_only : (a b g h : ℕ) → GreatestCommonDivisor a b g → GreatestCommonDivisor a b h → g ≡ h
-measure_only a b g h p q = dvd_antisymm (q.greatest g p.left p.right) (p.greatest h q.left q.right)
+use Rattle.std.specs.Int.{IsGcd}
+use Rattle.std.proofs.lemmas.Nat.Gcd.{IsGcd-from_zero, IsGcd-from_mod, same_from_IsGcd}
+use Rattle.admission.specs.Measure.{LeastCommonMultiple, measure_in, measure_of, multiple_of}
 
 -- what divides n times a and n times b divides n times their measure
 abbrev Scales : ℕ → ℕ → ℕ → Type 0
 Scales a b g = (d n : ℕ) → d ∣ n * a → d ∣ n * b → d ∣ n * g
 
 abbrev Both : ℕ → ℕ → ℕ → Type 0
-Both a b g = GreatestCommonDivisor a b g × Scales a b g
+Both a b g = IsGcd a b g × Scales a b g
 
 scaled_remainder : (d n a b : ℕ) → d ∣ n * a → d ∣ n * b → d ∣ n * (a % b)
 scaled_remainder d n a b p q =
@@ -31,10 +21,10 @@ scaled_remainder d n a b p q =
     (dvd-add_iff_right d front).1 (subst (λ x. d ∣ x) whole p)
 
 both_step : (a b g : ℕ) → Both b (a % b) g → Both a b g
-both_step a b g h = (measure_step a b g h.0, λ d n p q. h.1 d n q (scaled_remainder d n a b p q))
+both_step a b g h = (IsGcd-from_mod a b g h.0, λ d n p q. h.1 d n q (scaled_remainder d n a b p q))
 
 both_end : (a b : ℕ) → b ≡ 0 → Both a b a
-both_end a b e = (measure_end a b e, λ d n p q. p)
+both_end a b e = (IsGcd-from_zero a b e, λ d n p q. p)
 
 both_in : (k a b : ℕ) → b < k → Both a b (measure_in k a b)
 both_in zero a b h = absurd (omega arith)
@@ -51,17 +41,17 @@ both_of : (a b : ℕ) → Both a b (measure_of a b)
 unfolding measure_of
 both_of a b = both_in (suc b) a b (omega arith)
 
-pub measure_is : (a b g : ℕ) → GreatestCommonDivisor a b g → g ≡ measure_of a b
-measure_is a b g h = measure_only a b g (measure_of a b) h (both_of a b).0
+pub measure_is : (a b g : ℕ) → IsGcd a b g → g ≡ measure_of a b
+measure_is a b g h = same_from_IsGcd a b g (measure_of a b) h (both_of a b).0
 
 pub multiple_least : (a b : ℕ) → 0 < a → LeastCommonMultiple a b (multiple_of a b)
 unfolding multiple_of
 multiple_least a b some =
     let both = both_of a b in
-    let up = both.0.left in
+    let up = both.0.0 in
     let pos : 0 < measure_of a b = pos_of_dvd_of_pos up some in
     let a_is : a / measure_of a b * measure_of a b ≡ a = div-mul_cancel (measure_of a b) up in
-    let b_is : measure_of a b * (b / measure_of a b) ≡ b = mul-div_cancel' (measure_of a b) both.0.right in
+    let b_is : measure_of a b * (b / measure_of a b) ≡ b = mul-div_cancel' (measure_of a b) both.0.1 in
     record {
       left = subst (λ x. a ∣ x) (ap (λ x. x * (b / measure_of a b)) (sym a_is) ∙ mul_assoc (a / measure_of a b) (measure_of a b) (b / measure_of a b) ∙ ap (λ x. a / measure_of a b * x) b_is) (dvd-mul_right a (b / measure_of a b));
       right = dvd-mul_left b (a / measure_of a b);

@@ -1,12 +1,6 @@
--- The greatest common divisor and the least common multiple of two lengths.
+-- The greatest common divisor, by falling remainders, and the least common multiple of two lengths.
 use Rattle.std.specs.Prelude.{if◌then◌else◌, ℕ, zero, suc, ◌*◌, ◌/◌, ◌%◌, ◌==◌}
 use Rattle.std.specs.Int.{◌∣◌}
-
--- it divides both, and every number that divides both divides it
-pub record GreatestCommonDivisor (a b measure : ℕ) : Type 0 where
-  pub left : measure ∣ a
-  pub right : measure ∣ b
-  pub greatest : (d : ℕ) → d ∣ a → d ∣ b → d ∣ measure
 
 -- both divide it, and it divides every number that both divide
 pub record LeastCommonMultiple (a b multiple : ℕ) : Type 0 where

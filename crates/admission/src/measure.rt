@@ -2,12 +2,13 @@
 ghost use Rattle.std.specs.Prelude.{◌≡◌, ◌<◌, ◌≤◌};
 ghost use Rattle.sheet.specs.Limits.{longest_span};
 ghost use Rattle.admission.specs.Demand.{longest_cycle};
-ghost use Rattle.admission.specs.Measure.{GreatestCommonDivisor, LeastCommonMultiple, measure_of, multiple_of};
+ghost use Rattle.std.specs.Int.{IsGcd};
+ghost use Rattle.admission.specs.Measure.{LeastCommonMultiple, measure_of, multiple_of};
 
 // The greatest length that measures both, by falling remainders. With 0 it is the other one.
 pub fn common_measure(a: u64, b: u64) -> u64
     ensures value { result ≡ measure_of a b }
-    ensures greatest { GreatestCommonDivisor a b result }
+    ensures greatest { IsGcd a b result }
 {
     if b == 0 { a } else { common_measure(b, a % b) }
 }

@@ -5,7 +5,7 @@ use Rattle.admission.proofs.Measures.{multiple_least}
 use Rattle.admission.proofs.measure.common_multiple.Goals as goal
 
 pub nonzero_div-result : goal.nonzero_div-result
-nonzero_div-result c = pos_of_dvd_of_pos c.common_measure.ensures.greatest.left c.requires.some
+nonzero_div-result c = pos_of_dvd_of_pos c.common_measure.ensures.greatest.0 c.requires.some
 
 product : (c : goal.After-common_measure) → c.args.cycle / c.common_measure.result * c.args.length ≤ 10000000000000
 product c =
