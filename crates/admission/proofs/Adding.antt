@@ -1,8 +1,8 @@
--- One turn of the loops that add up the cycle and the load: what is left decides, before the turn as after it.
-use Rattle.std.proofs.Common.{◌≡◌, ℕ, ◌+◌, ◌*◌, ◌/◌, ◌<◌, ◌≤◌, cond, leb, List, map, length, get_or, drop, Err, sym, ap, ◌∙◌, subst, add_assoc, mul-le-mul, div-le_self, arith}
+-- One turn of the loop that finds the cycle: what is left decides, before the turn as after it.
+use Rattle.std.proofs.Common.{◌≡◌, ℕ, ◌+◌, ◌<◌, ◌≤◌, cond, leb, List, map, length, get_or, drop, Err, sym, ap, ◌∙◌, subst}
 use Rattle.std.specs.List.{AllByRecursion}
 use Rattle.std.proofs.lemmas.List.{at_drop_more, drop_more}
-use Rattle.std.proofs.lemmas.Bool.{le-leb, lt-leb}
+use Rattle.std.proofs.lemmas.Bool.{le-leb}
 use Rattle.sheet.specs.declared.record.Record.{Record}
 use Rattle.sheet.specs.Limits.{longest_span}
 use Rattle.sheet.specs.Entries.{Entry, poll, lane, seen, place_of}
@@ -10,7 +10,7 @@ use Rattle.sheet.specs.Limited.{WithinLimits}
 use Rattle.admission.specs.declared.fault.AdmissionFault.TheVariants.{Cycle}
 use Rattle.admission.specs.Measure.{multiple_of}
 use Rattle.admission.specs.Demand.{longest_cycle}
-use Rattle.admission.specs.Verdict.{length_of, share_of, cycle_from, load_in}
+use Rattle.admission.specs.Verdict.{length_of, share_of, cycle_from}
 
 -- what the limits say of a record's length and share
 pub record Sized (length share : ℕ) : Type 0 where
@@ -21,14 +21,6 @@ pub record Sized (length share : ℕ) : Type 0 where
 pub sized : (entry : Entry) → WithinLimits entry → Sized (length_of entry) (share_of entry)
 sized (poll name phase period budget at) h = record { some = h.1; most = h.2; less = h.4 }
 sized (lane name span quota at) h = record { some = h.0; most = h.1; less = h.3 }
-
--- what a record takes of a cycle stays far below the largest number
-pub slots_small : (length share cycle : ℕ) → Sized length share → cycle ≤ longest_cycle → share * (cycle / length) ≤ 10000000000000
-slots_small length share cycle h short =
-    let few : share ≤ 10000 = omega (arith, h.less, h.most) in
-    let down = div-le_self cycle length in
-    let times : cycle / length ≤ 1000000000 = omega arith in
-    mul-le-mul few times
 
 module _ (records : List Record) (i : ℕ) (d : Record) (h : i < length records) where
   -- the record at i is sized, and the others are still within their limits
@@ -49,17 +41,3 @@ module _ (records : List Record) (i : ℕ) (d : Record) (h : i < length records)
       cycle_from cycle (map seen (drop i records)) ≡ cycle_from grown (map seen (drop (i + 1) records))
   cycle_more cycle length' grown e g small =
       cycle_step cycle length' grown e g ∙ ap (λ t. cond t (cycle_from grown (map seen (drop (i + 1) records))) (Err (Cycle (place_of (seen (get_or records i d)))))) (le-leb grown longest_cycle small)
-
-  pub cycle_past : (cycle length' grown place : ℕ) → length' ≡ length_of (seen (get_or records i d)) → grown ≡ multiple_of cycle length' → longest_cycle < grown → place ≡ place_of (seen (get_or records i d)) →
-      cycle_from cycle (map seen (drop i records)) ≡ Err (Cycle place)
-  cycle_past cycle length' grown place e g large is =
-      cycle_step cycle length' grown e g
-      ∙ ap (λ t. cond t (cycle_from grown (map seen (drop (i + 1) records))) (Err (Cycle (place_of (seen (get_or records i d)))))) (lt-leb grown longest_cycle large)
-      ∙ ap (λ n. Err (Cycle n)) (sym is)
-
-  pub load_more : (cycle length' share' load : ℕ) → length' ≡ length_of (seen (get_or records i d)) → share' ≡ share_of (seen (get_or records i d)) →
-      load + load_in cycle (map seen (drop i records)) ≡ load + share' * (cycle / length') + load_in cycle (map seen (drop (i + 1) records))
-  load_more cycle length' share' load e f =
-      ap (λ n. load + n) (at_drop_more (λ rest. load_in cycle (map seen rest)) records i d h)
-      ∙ (λ k. load + (sym f k * (cycle / sym e k) + load_in cycle (map seen (drop (i + 1) records))))
-      ∙ sym (add_assoc load (share' * (cycle / length')) (load_in cycle (map seen (drop (i + 1) records))))

@@ -1,3 +1,4 @@
+-- Of the product's factors, the quotient is at most the cycle.
 use Rattle.std.proofs.Common.{◌≡◌, ◌*◌, ◌/◌, ◌≤◌, sym, ap, subst, mul-le-mul, div-le_self, arith}
 use native.Mathlib.Nat.{pos_of_dvd_of_pos}
 use Rattle.admission.specs.Measure.{multiple_of, LeastCommonMultiple}
