@@ -1,5 +1,5 @@
 -- The account of a job: what is left of it and what it got make what was born of it, or a report finished it.
-use Rattle.std.proofs.Common.{◌≡◌, ℕ, suc, ◌+◌, ◌-◌, ◌<◌, ◌≤◌, Bool, true, false, cond, ◌&&◌, ◌||◌, eqb, ◌⊎◌, List, [], ◌∷◌, None, refl, ap, ◌∙◌, inl, inr, arith}
+use Rattle.std.proofs.Common.{◌≡◌, ℕ, suc, ◌+◌, ◌-◌, ◌<◌, ◌≤◌, Bool, true, false, cond, ◌&&◌, ◌||◌, eqb, ◌⊎◌, List, [], ◌∷◌, Ok, None, refl, ap, ◌∙◌, inl, inr, arith}
 use Rattle.std.proofs.lemmas.Bool.{or_left, or_right}
 use Rattle.std.proofs.lemmas.Bool.Decides.{nat_tests}
 use Rattle.pile.specs.Sorted.{first_of}
@@ -102,7 +102,7 @@ pub record Account (m : Setup) (s : State) (es : List Entry) (owner deadline : �
 Accounts : Setup → State → List Entry → Type 0
 Accounts m s es = (owner deadline : ℕ) → 0 < deadline → Account m s es owner deadline
 
-account_request : (m : Setup) (s : State) (es : List Entry) (j budget : ℕ) → Accounts m s es → Accounts m (moved m s (Request j budget)) (entry (Request j budget) (said m s (Request j budget)) ∷ es)
+account_request : (m : Setup) (s : State) (es : List Entry) (j budget : ℕ) → Accounts m s es → Accounts m (moved m s (Request j budget)) (entry (Request j budget) (Ok (said m s (Request j budget))) ∷ es)
 unfolding Accounts
 account_request m s es j budget h owner deadline z =
     let a = h owner deadline z in
@@ -113,7 +113,7 @@ account_request m s es j budget h owner deadline z =
       once = omega (arith, a.once, sum_put (weighed as_one owner deadline) job s.bag);
     }
 
-account_grant : (m : Setup) (s : State) (es : List Entry) → s.is_open ≡ false → Accounts m s es → Accounts m (moved m s Grant) (entry Grant (said m s Grant) ∷ es)
+account_grant : (m : Setup) (s : State) (es : List Entry) → s.is_open ≡ false → Accounts m s es → Accounts m (moved m s Grant) (entry Grant (Ok (said m s Grant)) ∷ es)
 unfolding Accounts
 account_grant m s es shut h owner deadline z =
     let a = h owner deadline z in
@@ -126,7 +126,7 @@ account_grant m s es shut h owner deadline z =
     }
 
 account_report : (m : Setup) (s : State) (es : List Entry) (unit slot : ℕ) (outcome : Outcome) → s.is_open ≡ true → Basic m s es → Accounts m s es →
-    Accounts m (moved m s (Report unit slot outcome)) (entry (Report unit slot outcome) (said m s (Report unit slot outcome)) ∷ es)
+    Accounts m (moved m s (Report unit slot outcome)) (entry (Report unit slot outcome) (Ok (said m s (Report unit slot outcome))) ∷ es)
 unfolding Accounts
 account_report m s es unit slot outcome on b h owner deadline z =
     record {
@@ -170,7 +170,7 @@ account_report m s es unit slot outcome on b h owner deadline z =
     either true y = omega arith
     either false y = omega arith
 
-account_moves : (m : Setup) (s : State) (es : List Entry) (call : Call) → refusal_of m s call ≡ None → Basic m s es → Accounts m s es → Accounts m (moved m s call) (entry call (said m s call) ∷ es)
+account_moves : (m : Setup) (s : State) (es : List Entry) (call : Call) → refusal_of m s call ≡ None → Basic m s es → Accounts m s es → Accounts m (moved m s call) (entry call (Ok (said m s call)) ∷ es)
 account_moves m s es (Request j budget) e b h = account_request m s es j budget h
 account_moves m s es Grant e b h = account_grant m s es (grant_accepted m s e) h
 account_moves m s es (Report unit slot outcome) e b h = account_report m s es unit slot outcome (report_accepted m s unit slot outcome e) b h

@@ -1,5 +1,5 @@
 -- The plain facts of every history: what the record says of slot, open mark and token is so, and the bag is in order.
-use Rattle.std.proofs.Common.{◌≡◌, ℕ, suc, ◌<◌, true, false, cond, List, [], ◌∷◌, length, None, refl, ap, ◌∙◌, length-set}
+use Rattle.std.proofs.Common.{◌≡◌, ℕ, suc, ◌<◌, true, false, cond, List, [], ◌∷◌, Ok, length, None, refl, ap, ◌∙◌, length-set}
 use Rattle.std.specs.List.{AllByRecursion}
 use Rattle.std.proofs.ByRecursion.{All-get_or}
 use Rattle.std.proofs.lemmas.List.{length-map}
@@ -59,7 +59,7 @@ jobs_positive cycle (poll ∷ polls) i n laws =
     cond_both (is_released n poll) (poll_job n i poll ∷ jobs_at n (suc i) polls) (jobs_at n (suc i) polls) Positive
     (λ _. (laws.0.some_budget, jobs_positive cycle polls (suc i) n laws.1)) (λ _. jobs_positive cycle polls (suc i) n laws.1)
 
-basic_moves : (m : Setup) → Opened m → (s : State) (es : List Entry) (call : Call) → refusal_of m s call ≡ None → Basic m s es → Basic m (moved m s call) (entry call (said m s call) ∷ es)
+basic_moves : (m : Setup) → Opened m → (s : State) (es : List Entry) (call : Call) → refusal_of m s call ≡ None → Basic m s es → Basic m (moved m s call) (entry call (Ok (said m s call)) ∷ es)
 basic_moves m o s es (Request j budget) e b =
     let a = request_accepted m s j budget e in
     record {

@@ -1,6 +1,6 @@
 -- What was ever born of the job of an owner and a deadline: one release of a poll, or one accepted request. Jobs are weighed by
 -- a function of their slots left: by the slots themselves, or by 1.
-use Rattle.std.proofs.Common.{◌≡◌, ℕ, zero, suc, ◌+◌, ◌<◌, ◌≤◌, Bool, true, false, cond, ◌&&◌, eqb, List, [], ◌∷◌, length, get_or, refl, ap, ◌∙◌, subst, inl, inr, arith}
+use Rattle.std.proofs.Common.{◌≡◌, ℕ, zero, suc, ◌+◌, ◌<◌, ◌≤◌, Bool, true, false, cond, ◌&&◌, eqb, List, [], ◌∷◌, Ok, Err, length, get_or, refl, ap, ◌∙◌, subst, inl, inr, arith}
 use Rattle.std.specs.List.{AllByRecursion}
 use Rattle.std.proofs.ByRecursion.{All-weaker}
 use Rattle.std.proofs.lemmas.Bool.{cases_eq, eq-eqb, ne_eqb}
@@ -10,11 +10,11 @@ use Rattle.admission.specs.declared.table.Poll.{Poll}
 use Rattle.admission.specs.Sums.{sum_of}
 use Rattle.machine.specs.declared.call.Call.{Call}
 use Rattle.machine.specs.declared.call.Call.TheVariants.{Request, Grant, Report}
-use Rattle.machine.specs.declared.call.Answer.{Answer}
-use Rattle.machine.specs.declared.call.Answer.TheVariants.{Deadline, Granted, Reported, Refused}
+use Rattle.machine.specs.declared.call.Reply.TheVariants.{Deadline, Granted, Reported}
 use Rattle.machine.specs.Limits.{first_lane}
 use Rattle.machine.specs.Polls.{relative_deadline, is_released, poll_job, jobs_at}
 use Rattle.machine.specs.Lanes.{lane_owner}
+use Rattle.machine.specs.Machine.{Answer}
 use Rattle.machine.specs.History.{Entry, Accepted, deadlines_of, deadline_by}
 use Rattle.machine.specs.Promises.{Growing}
 use Rattle.machine.proofs.Releases.{no_poll, released_none, released_one}
@@ -91,24 +91,24 @@ module _ (w : ℕ → ℕ) where
 
   -- what requests brought of it
   abbrev pub born_by : Answer → Call → ℕ → ℕ → ℕ
-  born_by (Deadline d) (Request k budget) owner deadline = cond (eqb (lane_owner k) owner && eqb d deadline) (w budget) 0
-  born_by (Deadline d) Grant owner deadline = 0
-  born_by (Deadline d) (Report u k outcome) owner deadline = 0
-  born_by (Granted u k o d) call owner deadline = 0
-  born_by Reported call owner deadline = 0
-  born_by (Refused r) call owner deadline = 0
+  born_by (Ok (Deadline d)) (Request k budget) owner deadline = cond (eqb (lane_owner k) owner && eqb d deadline) (w budget) 0
+  born_by (Ok (Deadline d)) Grant owner deadline = 0
+  born_by (Ok (Deadline d)) (Report u k outcome) owner deadline = 0
+  born_by (Ok (Granted u k o d)) call owner deadline = 0
+  born_by (Ok Reported) call owner deadline = 0
+  born_by (Err r) call owner deadline = 0
 
   abbrev pub born_of_requests : List Entry → ℕ → ℕ → ℕ
   born_of_requests [] owner deadline = 0
   born_of_requests (e ∷ es) owner deadline = born_by e.told e.call owner deadline + born_of_requests es owner deadline
 
   none_by : (told : Answer) (call : Call) (owner deadline : ℕ) → owner < first_lane → born_by told call owner deadline ≡ 0
-  none_by (Deadline d) (Request k budget) owner deadline l = let ne : lane_owner k ≡ owner → ⊥ = omega arith in grind (arith, nat_tests)
-  none_by (Deadline d) Grant owner deadline l = refl
-  none_by (Deadline d) (Report u k outcome) owner deadline l = refl
-  none_by (Granted u k o d) call owner deadline l = refl
-  none_by Reported call owner deadline l = refl
-  none_by (Refused r) call owner deadline l = refl
+  none_by (Ok (Deadline d)) (Request k budget) owner deadline l = let ne : lane_owner k ≡ owner → ⊥ = omega arith in grind (arith, nat_tests)
+  none_by (Ok (Deadline d)) Grant owner deadline l = refl
+  none_by (Ok (Deadline d)) (Report u k outcome) owner deadline l = refl
+  none_by (Ok (Granted u k o d)) call owner deadline l = refl
+  none_by (Ok Reported) call owner deadline l = refl
+  none_by (Err r) call owner deadline l = refl
 
   -- a poll's number is no lane's
   pub born_of_no_request : (es : List Entry) (owner deadline : ℕ) → owner < first_lane → born_of_requests es owner deadline ≡ 0
@@ -116,23 +116,23 @@ module _ (w : ℕ → ℕ) where
   born_of_no_request (e ∷ es) owner deadline l = omega (arith, none_by e.told e.call owner deadline l, born_of_no_request es owner deadline l)
 
   module _ (j : ℕ) where
-    by_request : (k budget d deadline : ℕ) (b : Bool) → eqb k j ≡ b → born_by (Deadline d) (Request k budget) (lane_owner j) deadline ≡ cond b (cond (eqb d deadline) (w budget) 0) 0
+    by_request : (k budget d deadline : ℕ) (b : Bool) → eqb k j ≡ b → born_by (Ok (Deadline d)) (Request k budget) (lane_owner j) deadline ≡ cond b (cond (eqb d deadline) (w budget) 0) 0
     by_request k budget d deadline true e = grind (arith, nat_tests)
     by_request k budget d deadline false e = grind (arith, nat_tests)
 
     -- a deadline that the lane was not given brings nothing
     absent_by : (told : Answer) (call : Call) (deadline : ℕ) (older : List ℕ) → AllByRecursion (λ d. d ≡ deadline → ⊥) (deadline_by told call j older) →
         (born_by told call (lane_owner j) deadline ≡ 0) × AllByRecursion (λ d. d ≡ deadline → ⊥) older
-    absent_by (Deadline d) (Request k budget) deadline older h = go (eqb k j) refl h
+    absent_by (Ok (Deadline d)) (Request k budget) deadline older h = go (eqb k j) refl h
       where
-        go : (b : Bool) → eqb k j ≡ b → AllByRecursion (λ d. d ≡ deadline → ⊥) (cond b (d ∷ older) older) → (born_by (Deadline d) (Request k budget) (lane_owner j) deadline ≡ 0) × AllByRecursion (λ d. d ≡ deadline → ⊥) older
+        go : (b : Bool) → eqb k j ≡ b → AllByRecursion (λ d. d ≡ deadline → ⊥) (cond b (d ∷ older) older) → (born_by (Ok (Deadline d)) (Request k budget) (lane_owner j) deadline ≡ 0) × AllByRecursion (λ d. d ≡ deadline → ⊥) older
         go true e g = let ne = g.0 in (by_request k budget d deadline true e ∙ grind (arith, nat_tests), g.1)
         go false e g = (by_request k budget d deadline false e, g)
-    absent_by (Deadline d) Grant deadline older h = (refl, h)
-    absent_by (Deadline d) (Report u k outcome) deadline older h = (refl, h)
-    absent_by (Granted u k o d) call deadline older h = (refl, h)
-    absent_by Reported call deadline older h = (refl, h)
-    absent_by (Refused r) call deadline older h = (refl, h)
+    absent_by (Ok (Deadline d)) Grant deadline older h = (refl, h)
+    absent_by (Ok (Deadline d)) (Report u k outcome) deadline older h = (refl, h)
+    absent_by (Ok (Granted u k o d)) call deadline older h = (refl, h)
+    absent_by (Ok Reported) call deadline older h = (refl, h)
+    absent_by (Err r) call deadline older h = (refl, h)
 
     born_absent : (es : List Entry) (deadline : ℕ) → AllByRecursion (λ d. d ≡ deadline → ⊥) (deadlines_of j es) → born_of_requests es (lane_owner j) deadline ≡ 0
     born_absent [] deadline h = refl
@@ -143,18 +143,18 @@ module _ (w : ℕ → ℕ) where
 
     -- what holds of all deadlines of the lane holds of the older ones, and of an accepted one
     all_older : (P : ℕ → Type 0) (told : Answer) (call : Call) (older : List ℕ) → AllByRecursion P (deadline_by told call j older) → AllByRecursion P older
-    all_older P (Deadline d) (Request k budget) older h = go (eqb k j) h
+    all_older P (Ok (Deadline d)) (Request k budget) older h = go (eqb k j) h
       where
         go : (b : Bool) → AllByRecursion P (cond b (d ∷ older) older) → AllByRecursion P older
         go true g = g.1
         go false g = g
-    all_older P (Deadline d) Grant older h = h
-    all_older P (Deadline d) (Report u k outcome) older h = h
-    all_older P (Granted u k o d) call older h = h
-    all_older P Reported call older h = h
-    all_older P (Refused r) call older h = h
+    all_older P (Ok (Deadline d)) Grant older h = h
+    all_older P (Ok (Deadline d)) (Report u k outcome) older h = h
+    all_older P (Ok (Granted u k o d)) call older h = h
+    all_older P (Ok Reported) call older h = h
+    all_older P (Err r) call older h = h
 
-    own : (budget deadline : ℕ) (older : List ℕ) → deadline_by (Deadline deadline) (Request j budget) j older ≡ deadline ∷ older
+    own : (budget deadline : ℕ) (older : List ℕ) → deadline_by (Ok (Deadline deadline)) (Request j budget) j older ≡ deadline ∷ older
     own budget deadline older = ap (λ b. cond b (deadline ∷ older) older) (eq-eqb j j refl)
 
     pub accepted_has : (P : ℕ → Type 0) (es : List Entry) (budget deadline : ℕ) → Accepted es j budget deadline → AllByRecursion P (deadlines_of j es) → P deadline
@@ -164,30 +164,30 @@ module _ (w : ℕ → ℕ) where
     accepted_has P (e ∷ es) budget deadline (inr a) h = accepted_has P es budget deadline a (all_older P e.told e.call (deadlines_of j es) h)
 
     growing_older : (told : Answer) (call : Call) (older : List ℕ) → Growing (deadline_by told call j older) → Growing older
-    growing_older (Deadline d) (Request k budget) older h = go (eqb k j) h
+    growing_older (Ok (Deadline d)) (Request k budget) older h = go (eqb k j) h
       where
         go : (b : Bool) → Growing (cond b (d ∷ older) older) → Growing older
         go true g = g.1
         go false g = g
-    growing_older (Deadline d) Grant older h = h
-    growing_older (Deadline d) (Report u k outcome) older h = h
-    growing_older (Granted u k o d) call older h = h
-    growing_older Reported call older h = h
-    growing_older (Refused r) call older h = h
+    growing_older (Ok (Deadline d)) Grant older h = h
+    growing_older (Ok (Deadline d)) (Report u k outcome) older h = h
+    growing_older (Ok (Granted u k o d)) call older h = h
+    growing_older (Ok Reported) call older h = h
+    growing_older (Err r) call older h = h
 
     -- an entry in front brings nothing of a deadline that was given before
     nothing_new : (told : Answer) (call : Call) (older : List ℕ) (deadline : ℕ) → Growing (deadline_by told call j older) → ((P : ℕ → Type 0) → AllByRecursion P older → P deadline) →
         born_by told call (lane_owner j) deadline ≡ 0
-    nothing_new (Deadline d) (Request k budget) older deadline g given = go (eqb k j) refl g
+    nothing_new (Ok (Deadline d)) (Request k budget) older deadline g given = go (eqb k j) refl g
       where
-        go : (b : Bool) → eqb k j ≡ b → Growing (cond b (d ∷ older) older) → born_by (Deadline d) (Request k budget) (lane_owner j) deadline ≡ 0
+        go : (b : Bool) → eqb k j ≡ b → Growing (cond b (d ∷ older) older) → born_by (Ok (Deadline d)) (Request k budget) (lane_owner j) deadline ≡ 0
         go true e f = let l : deadline < d = given (λ x. x < d) f.0 in by_request k budget d deadline true e ∙ grind (arith, nat_tests)
         go false e f = by_request k budget d deadline false e
-    nothing_new (Deadline d) Grant older deadline g given = refl
-    nothing_new (Deadline d) (Report u k outcome) older deadline g given = refl
-    nothing_new (Granted u k o d) call older deadline g given = refl
-    nothing_new Reported call older deadline g given = refl
-    nothing_new (Refused r) call older deadline g given = refl
+    nothing_new (Ok (Deadline d)) Grant older deadline g given = refl
+    nothing_new (Ok (Deadline d)) (Report u k outcome) older deadline g given = refl
+    nothing_new (Ok (Granted u k o d)) call older deadline g given = refl
+    nothing_new (Ok Reported) call older deadline g given = refl
+    nothing_new (Err r) call older deadline g given = refl
 
     -- an accepted request is born once
     pub born_accepted : (es : List Entry) (budget deadline : ℕ) → Growing (deadlines_of j es) → Accepted es j budget deadline → born_of_requests es (lane_owner j) deadline ≡ w budget
@@ -196,7 +196,7 @@ module _ (w : ℕ → ℕ) where
         subst (λ (x : Entry). Growing (deadline_by x.told x.call j (deadlines_of j es)) → born_by x.told x.call (lane_owner j) deadline + born_of_requests es (lane_owner j) deadline ≡ w budget) q
         (λ f.
         let h = subst Growing (own budget deadline (deadlines_of j es)) f in
-        let here : born_by (Deadline deadline) (Request j budget) (lane_owner j) deadline ≡ w budget = by_request j budget deadline deadline true (eq-eqb j j refl) ∙ grind (arith, nat_tests) in
+        let here : born_by (Ok (Deadline deadline)) (Request j budget) (lane_owner j) deadline ≡ w budget = by_request j budget deadline deadline true (eq-eqb j j refl) ∙ grind (arith, nat_tests) in
         omega (arith, here, born_absent es deadline (other_than deadline (deadlines_of j es) h.0)))
         g
     born_accepted (e ∷ es) budget deadline g (inr a) =
@@ -213,10 +213,10 @@ born_once j (e ∷ es) deadline g = go e.told e.call g (born_once j es deadline 
   where
     go : (told : Answer) (call : Call) → Growing (deadline_by told call j (deadlines_of j es)) → born_of_requests (λ n. 1) es (lane_owner j) deadline ≤ 1 →
         born_by (λ n. 1) told call (lane_owner j) deadline + born_of_requests (λ n. 1) es (lane_owner j) deadline ≤ 1
-    go (Deadline d) (Request k budget) f h = ways (eqb k j) refl f
+    go (Ok (Deadline d)) (Request k budget) f h = ways (eqb k j) refl f
       where
         ways : (b : Bool) → eqb k j ≡ b → Growing (cond b (d ∷ deadlines_of j es) (deadlines_of j es)) →
-            born_by (λ n. 1) (Deadline d) (Request k budget) (lane_owner j) deadline + born_of_requests (λ n. 1) es (lane_owner j) deadline ≤ 1
+            born_by (λ n. 1) (Ok (Deadline d)) (Request k budget) (lane_owner j) deadline + born_of_requests (λ n. 1) es (lane_owner j) deadline ≤ 1
         ways false q r = omega (arith, h, by_request (λ n. 1) j k budget d deadline false q)
         ways true q r = elim (cases_eq d deadline) [
           | inl same ↦
@@ -231,8 +231,8 @@ born_once j (e ∷ es) deadline g = go e.told e.call g (born_once j es deadline 
             one_most : (t : Bool) → cond t 1 0 ≤ 1
             one_most true = omega arith
             one_most false = omega arith
-    go (Deadline d) Grant f h = omega (arith, h)
-    go (Deadline d) (Report u k outcome) f h = omega (arith, h)
-    go (Granted u k o d) call f h = omega (arith, h)
-    go Reported call f h = omega (arith, h)
-    go (Refused r) call f h = omega (arith, h)
+    go (Ok (Deadline d)) Grant f h = omega (arith, h)
+    go (Ok (Deadline d)) (Report u k outcome) f h = omega (arith, h)
+    go (Ok (Granted u k o d)) call f h = omega (arith, h)
+    go (Ok Reported) call f h = omega (arith, h)
+    go (Err r) call f h = omega (arith, h)

@@ -1,5 +1,5 @@
 -- DEADLINES MET: nothing of a job that is due is in the bag, so its account says that it is over.
-use Rattle.std.proofs.Common.{◌≡◌, ℕ, suc, ◌+◌, ◌*◌, ◌<◌, ◌≤◌, List, [], ◌∷◌, length, None, refl, ◌∙◌, inl, inr, arith}
+use Rattle.std.proofs.Common.{◌≡◌, ℕ, suc, ◌+◌, ◌*◌, ◌<◌, ◌≤◌, List, [], ◌∷◌, Ok, length, None, refl, ◌∙◌, inl, inr, arith}
 use Rattle.std.specs.List.{AllByRecursion}
 use Rattle.std.proofs.lemmas.Bool.{cond_both}
 use Rattle.std.proofs.lemmas.Bool.Decides.{nat_tests}
@@ -78,7 +78,7 @@ first_later n (job ∷ jobs) h ne = h.0
 in_time : (m : Setup) → Opened m → (calls : List Call) → InTime (slots_in (record_of m calls))
 in_time m o = along m (λ s es. InTime (slots_in es)) tt (λ calls call refusal _ h. h) moves
   where
-    moves : (calls : List Call) (call : Call) → refusal_of m (after m calls) call ≡ None → InTime (slots_in (record_of m calls)) → InTime (slots_in (entry call (said m (after m calls) call) ∷ record_of m calls))
+    moves : (calls : List Call) (call : Call) → refusal_of m (after m calls) call ≡ None → InTime (slots_in (record_of m calls)) → InTime (slots_in (entry call (Ok (said m (after m calls) call)) ∷ record_of m calls))
     moves calls (Request j budget) e h = h
     moves calls Grant e h = h
     moves calls (Report unit slot outcome) e h =

@@ -1,5 +1,5 @@
 -- A lane's accepted deadlines only grow, and the machine remembers the last eight of them.
-use Rattle.std.proofs.Common.{◌≡◌, ℕ, zero, suc, ◌<◌, true, false, eqb, List, [], ◌∷◌, map, get_or, take, set, None, sym, refl, ap, ◌∙◌, inl, inr, arith, take-take}
+use Rattle.std.proofs.Common.{◌≡◌, ℕ, zero, suc, ◌<◌, true, false, eqb, List, [], ◌∷◌, map, get_or, take, set, Ok, None, sym, refl, ap, ◌∙◌, inl, inr, arith, take-take}
 use Rattle.std.specs.List.{AllByRecursion}
 use Rattle.std.proofs.ByRecursion.{All-weaker}
 use Rattle.std.proofs.lemmas.List.{get_or-set_same, get_or-set_other}
@@ -7,7 +7,7 @@ use Rattle.std.proofs.lemmas.Bool.{cases_eq, eq-eqb, ne_eqb}
 use Rattle.admission.specs.declared.table.Lane.{Lane}
 use Rattle.machine.specs.declared.call.Call.{Call}
 use Rattle.machine.specs.declared.call.Call.TheVariants.{Request, Grant, Report}
-use Rattle.machine.specs.declared.call.Answer.TheVariants.{Deadline}
+use Rattle.machine.specs.declared.call.Reply.TheVariants.{Deadline}
 use Rattle.machine.specs.Limits.{most_ahead}
 use Rattle.machine.specs.Lanes.{clock_of}
 use Rattle.machine.specs.Machine.{Setup, State, refusal_of, moved, said, lane_at, recent_at, new_deadline}
@@ -38,7 +38,7 @@ nothing_at (lane ∷ lanes) zero = refl
 nothing_at (lane ∷ lanes) (suc j) = nothing_at lanes j
 
 module _ (m : Setup) (o : Opened m) (s : State) (es : List Entry) (k budget : ℕ) (a : Asked m s k budget) (b : Basic m s es) (h : (j : ℕ) → Remembered s es j) where
-  remembers_own : (j : ℕ) → j ≡ k → Remembered (moved m s (Request k budget)) (entry (Request k budget) (Deadline (new_deadline m s k budget)) ∷ es) j
+  remembers_own : (j : ℕ) → j ≡ k → Remembered (moved m s (Request k budget)) (entry (Request k budget) (Ok (Deadline (new_deadline m s k budget))) ∷ es) j
   remembers_own j e =
       let old = h j in
       let t : eqb k j ≡ true = eq-eqb k j (sym e) in
@@ -54,7 +54,7 @@ module _ (m : Setup) (o : Opened m) (s : State) (es : List Entry) (k budget : �
         positive = rw t (omega (arith, (new_deadline_lem m o s k budget a).0), old.positive);
       }
 
-  remembers_other : (j : ℕ) → (j ≡ k → ⊥) → Remembered (moved m s (Request k budget)) (entry (Request k budget) (Deadline (new_deadline m s k budget)) ∷ es) j
+  remembers_other : (j : ℕ) → (j ≡ k → ⊥) → Remembered (moved m s (Request k budget)) (entry (Request k budget) (Ok (Deadline (new_deadline m s k budget))) ∷ es) j
   remembers_other j ne =
       let old = h j in
       let t : eqb k j ≡ false = ne_eqb k j (λ e. ne (sym e)) in
@@ -64,11 +64,11 @@ module _ (m : Setup) (o : Opened m) (s : State) (es : List Entry) (k budget : �
         positive = rw t old.positive;
       }
 
-  remembers_request : (j : ℕ) → Remembered (moved m s (Request k budget)) (entry (Request k budget) (Deadline (new_deadline m s k budget)) ∷ es) j
+  remembers_request : (j : ℕ) → Remembered (moved m s (Request k budget)) (entry (Request k budget) (Ok (Deadline (new_deadline m s k budget))) ∷ es) j
   remembers_request j = elim (cases_eq j k) [ inl e ↦ remembers_own j e | inr ne ↦ remembers_other j ne ]
 
 remembers_moves : (m : Setup) → Opened m → (s : State) (es : List Entry) (call : Call) → refusal_of m s call ≡ None → Basic m s es → ((j : ℕ) → Remembered s es j) →
-    (j : ℕ) → Remembered (moved m s call) (entry call (said m s call) ∷ es) j
+    (j : ℕ) → Remembered (moved m s call) (entry call (Ok (said m s call)) ∷ es) j
 remembers_moves m o s es (Request k budget) e b h j = remembers_request m o s es k budget (request_accepted m s k budget e) b h j
 remembers_moves m o s es Grant e b h j = record { recent_is = (h j).recent_is; growing = (h j).growing; positive = (h j).positive }
 remembers_moves m o s es (Report unit slot outcome) e b h j = record { recent_is = (h j).recent_is; growing = (h j).growing; positive = (h j).positive }

@@ -1,5 +1,5 @@
 -- NEVER FULL: each poll has at most one job in the bag, each lane at most eight, so there is always a place.
-use Rattle.std.proofs.Common.{◌≡◌, ℕ, zero, suc, ◌+◌, ◌-◌, ◌*◌, ◌<◌, ◌≤◌, Bool, true, false, cond, not, ◌&&◌, ltb, leb, ◌⊎◌, List, [], ◌∷◌, length, get_or, Some, None, refl, ap, ◌∙◌, inl, inr, arith, length-take}
+use Rattle.std.proofs.Common.{◌≡◌, ℕ, zero, suc, ◌+◌, ◌-◌, ◌*◌, ◌<◌, ◌≤◌, Bool, true, false, cond, not, ◌&&◌, ltb, leb, ◌⊎◌, List, [], ◌∷◌, Ok, Err, length, get_or, Some, None, refl, ap, ◌∙◌, inl, inr, arith, length-take}
 use Rattle.std.specs.List.{AllByRecursion}
 use Rattle.std.proofs.lemmas.Bool.{cases_eq, le-ltb, ltb-true, ltb-false, leb-false}
 use Rattle.std.proofs.lemmas.Bool.Decides.{nat_tests}
@@ -9,7 +9,6 @@ use Rattle.admission.specs.Contents.{Contents}
 use Rattle.admission.specs.Sums.{sum_of}
 use Rattle.machine.specs.declared.call.Call.{Call}
 use Rattle.machine.specs.declared.call.Call.TheVariants.{Request, Grant, Report}
-use Rattle.machine.specs.declared.call.Answer.TheVariants.{Refused}
 use Rattle.machine.specs.declared.refusal.Refusal.{Refusal}
 use Rattle.machine.specs.declared.refusal.Refusal.TheVariants.{DuringSlot, NoSuchLane, BudgetOutOfRange, LaneAhead, QueueFull, SlotOpen, SlotsUsedUp, NoPlaceForRelease, Unopened, NotThisSlot}
 use Rattle.machine.specs.Refusals.{refusal_number}
@@ -158,13 +157,13 @@ never which e = let z : ◌≡◌ {A = ℕ} 0 1 = cc in omega arith
 other : (refusal which : Refusal) (n : ℕ) → Some refusal ≡ Some which → (refusal_number refusal ≡ n → ⊥) → refusal_number which ≡ n → ⊥
 other refusal which n e ne q = ne (ap refusal_number (some_inj refusal which e) ∙ q)
 
-spared : (refusal which : Refusal) → Some refusal ≡ Some which → (refusal_number refusal ≡ 34 → ⊥) → (refusal_number refusal ≡ 42 → ⊥) → HasPlace (Refused which)
+spared : (refusal which : Refusal) → Some refusal ≡ Some which → (refusal_number refusal ≡ 34 → ⊥) → (refusal_number refusal ≡ 42 → ⊥) → HasPlace (Err which)
 spared refusal which e a b = (other refusal which 34 e a, other refusal which 42 e b)
 
 -- a request is refused by another question than the last, or the lane is there and has few ahead and there is no place
 request_ways : (shut lane range few place : Bool) (which : Refusal) →
     ask shut DuringSlot (ask lane NoSuchLane (ask range BudgetOutOfRange (ask few LaneAhead (ask place QueueFull None)))) ≡ Some which →
-    ((lane ≡ true) × (few ≡ true) × (place ≡ false)) ⊎ HasPlace (Refused which)
+    ((lane ≡ true) × (few ≡ true) × (place ≡ false)) ⊎ HasPlace (Err which)
 request_ways false lane range few place which e = inr (spared DuringSlot which e (λ q. omega arith) (λ q. omega arith))
 request_ways true false range few place which e = inr (spared NoSuchLane which e (λ q. omega arith) (λ q. omega arith))
 request_ways true true false few place which e = inr (spared BudgetOutOfRange which e (λ q. omega arith) (λ q. omega arith))
@@ -173,19 +172,19 @@ request_ways true true true true false which e = inl (refl, refl, refl)
 request_ways true true true true true which e = absurd (never which e)
 
 grant_ways : (opened shut more place : Bool) (which : Refusal) → ask opened Unopened (ask shut SlotOpen (ask more SlotsUsedUp (ask place NoPlaceForRelease None))) ≡ Some which →
-    ((shut ≡ true) × (place ≡ false)) ⊎ HasPlace (Refused which)
+    ((shut ≡ true) × (place ≡ false)) ⊎ HasPlace (Err which)
 grant_ways false shut more place which e = inr (spared Unopened which e (λ q. omega arith) (λ q. omega arith))
 grant_ways true false more place which e = inr (spared SlotOpen which e (λ q. omega arith) (λ q. omega arith))
 grant_ways true true false place which e = inr (spared SlotsUsedUp which e (λ q. omega arith) (λ q. omega arith))
 grant_ways true true true false which e = inl (refl, refl)
 grant_ways true true true true which e = absurd (never which e)
 
-report_ways : (right : Bool) (which : Refusal) → ask right NotThisSlot None ≡ Some which → HasPlace (Refused which)
+report_ways : (right : Bool) (which : Refusal) → ask right NotThisSlot None ≡ Some which → HasPlace (Err which)
 report_ways false which e = spared NotThisSlot which e (λ q. omega arith) (λ q. omega arith)
 report_ways true which e = absurd (never which e)
 
 module _ (m : Setup) (o : Opened m) (calls : List Call) where
-  pub request_has_place : (j budget : ℕ) (which : Refusal) → refusal_of m (after m calls) (Request j budget) ≡ Some which → HasPlace (Refused which)
+  pub request_has_place : (j budget : ℕ) (which : Refusal) → refusal_of m (after m calls) (Request j budget) ≡ Some which → HasPlace (Err which)
   request_has_place j budget which e =
       let s : State = after m calls in
       elim (request_ways (not s.is_open) (ltb j (length m.table.lanes)) (leb 1 budget && leb budget most_budget) (ltb (ahead s.slot (recent_at s j)) most_ahead) (ltb (length s.bag) m.places) which e) [
@@ -198,7 +197,7 @@ module _ (m : Setup) (o : Opened m) (calls : List Call) where
         | inr h ↦ h
       ]
 
-  call_has_place : (call : Call) (which : Refusal) → refusal_of m (after m calls) call ≡ Some which → HasPlace (Refused which)
+  call_has_place : (call : Call) (which : Refusal) → refusal_of m (after m calls) call ≡ Some which → HasPlace (Err which)
   call_has_place (Request j budget) which e = request_has_place j budget which e
   call_has_place Grant which e =
       let s : State = after m calls in
@@ -213,7 +212,7 @@ module _ (m : Setup) (o : Opened m) (calls : List Call) where
       ]
   call_has_place (Report unit slot outcome) which e = report_ways _ which e
 
-accepted_has_place : (m : Setup) (s : State) (call : Call) → HasPlace (said m s call)
+accepted_has_place : (m : Setup) (s : State) (call : Call) → HasPlace (Ok (said m s call))
 accepted_has_place m s (Request j budget) = tt
 accepted_has_place m s Grant = tt
 accepted_has_place m s (Report unit slot outcome) = tt

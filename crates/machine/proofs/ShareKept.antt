@@ -1,12 +1,12 @@
 -- SHARE KEPT: what a lane was promised from s on, due by t, fits between s and the earlier of t and its clock.
-use Rattle.std.proofs.Common.{◌≡◌, ℕ, zero, suc, ◌+◌, ◌<◌, Bool, cond, ◌&&◌, eqb, leb, List, [], ◌∷◌, map, length, get_or, take, set, None, sym, refl, ap, ◌∙◌, subst, inl, inr, arith}
+use Rattle.std.proofs.Common.{◌≡◌, ℕ, zero, suc, ◌+◌, ◌<◌, Bool, cond, ◌&&◌, eqb, leb, List, [], ◌∷◌, map, Ok, length, get_or, take, set, None, sym, refl, ap, ◌∙◌, subst, inl, inr, arith}
 use Rattle.std.proofs.lemmas.List.{get_or-set_same, get_or-set_other}
 use Rattle.std.proofs.lemmas.Bool.{cases_eq, and_parts, leb-true}
 use Rattle.std.proofs.lemmas.Bool.Decides.{nat_tests}
 use Rattle.admission.specs.declared.table.Lane.{Lane}
 use Rattle.machine.specs.declared.call.Call.{Call}
 use Rattle.machine.specs.declared.call.Call.TheVariants.{Request, Grant, Report}
-use Rattle.machine.specs.declared.call.Answer.TheVariants.{Deadline}
+use Rattle.machine.specs.declared.call.Reply.TheVariants.{Deadline}
 use Rattle.machine.specs.Limits.{most_ahead}
 use Rattle.machine.specs.Lanes.{clock_of}
 use Rattle.machine.specs.Machine.{Setup, State, refusal_of, moved, said, lane_at, recent_at, new_clock, new_deadline}
@@ -28,7 +28,7 @@ module _ (m : Setup) (o : Opened m) (j : ℕ) (jl : j < length m.table.lanes) wh
       subst (λ y. Fit (lane_at m j) y x t (clock_of (recent_at s' j))) q (subst (λ l. Fit (lane_at m j) (budgets_within j x t es) x t (clock_of l)) (sym e) (h x t))
 
   module _ (s : State) (es : List Entry) (k budget : ℕ) (a : Asked m s k budget) (b : Basic m s es) (h : Fits s es) where
-    fits_own : k ≡ j → Fits (moved m s (Request k budget)) (entry (Request k budget) (Deadline (new_deadline m s k budget)) ∷ es)
+    fits_own : k ≡ j → Fits (moved m s (Request k budget)) (entry (Request k budget) (Ok (Deadline (new_deadline m s k budget))) ∷ es)
     fits_own q x t =
         let here : recent_at (moved m s (Request k budget)) j ≡ take most_ahead (new_deadline m s k budget ∷ recent_at s k) =
         ap (λ i. get_or (set s.recent k (take most_ahead (new_deadline m s k budget ∷ recent_at s k))) i []) (sym q) ∙ get_or-set_same s.recent k _ [] (omega (arith, a.lane, b.lanes)) in
@@ -41,7 +41,7 @@ module _ (m : Setup) (o : Opened m) (j : ℕ) (jl : j < length m.table.lanes) wh
         let r = and_parts (leb x (slots_closed es)) (leb (new_deadline m s k budget) t) p.1 in
         (omega (arith, leb-true x (slots_closed es) r.0, b.slot_is), omega (arith, leb-true (new_deadline m s k budget) t r.1, ap (λ i. new_deadline m s i budget) q))))
 
-    fits_other : (k ≡ j → ⊥) → Fits (moved m s (Request k budget)) (entry (Request k budget) (Deadline (new_deadline m s k budget)) ∷ es)
+    fits_other : (k ≡ j → ⊥) → Fits (moved m s (Request k budget)) (entry (Request k budget) (Ok (Deadline (new_deadline m s k budget))) ∷ es)
     fits_other ne x t =
         fits_still s (moved m s (Request k budget)) es x t (cond (eqb k j && (leb x (slots_closed es) && leb (new_deadline m s k budget) t)) budget 0)
         (none k j (leb x (slots_closed es) && leb (new_deadline m s k budget) t) ne)
@@ -50,7 +50,7 @@ module _ (m : Setup) (o : Opened m) (j : ℕ) (jl : j < length m.table.lanes) wh
         none : (k j : ℕ) (g : Bool) → (k ≡ j → ⊥) → cond (eqb k j && g) budget 0 ≡ 0
         none k j g ne = grind (arith, nat_tests)
 
-  fits_moves : (s : State) (es : List Entry) (call : Call) → refusal_of m s call ≡ None → Basic m s es → Fits s es → Fits (moved m s call) (entry call (said m s call) ∷ es)
+  fits_moves : (s : State) (es : List Entry) (call : Call) → refusal_of m s call ≡ None → Basic m s es → Fits s es → Fits (moved m s call) (entry call (Ok (said m s call)) ∷ es)
   fits_moves s es (Request k budget) e b h x t =
       let a = request_accepted m s k budget e in
       elim (cases_eq k j) [ inl q ↦ fits_own s es k budget a b h q x t | inr ne ↦ fits_other s es k budget a b h ne x t ]

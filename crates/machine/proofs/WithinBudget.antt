@@ -1,5 +1,5 @@
 -- WITHIN THE BUDGET: a job's account never holds more than was born of it, and a finished job is not in the bag any more.
-use Rattle.std.proofs.Common.{◌≡◌, ℕ, ◌-◌, ◌<◌, ◌≤◌, Bool, true, false, cond, List, [], ◌∷◌, length, None, sym, refl, ap, ◌∙◌, subst, inl, inr, arith}
+use Rattle.std.proofs.Common.{◌≡◌, ℕ, ◌-◌, ◌<◌, ◌≤◌, Bool, true, false, cond, List, [], ◌∷◌, Ok, length, None, sym, refl, ap, ◌∙◌, subst, inl, inr, arith}
 use Rattle.std.specs.List.{AllByRecursion}
 use Rattle.std.proofs.lemmas.Bool.{cases_lt}
 use Rattle.std.proofs.lemmas.Bool.Decides.{nat_tests}
@@ -73,7 +73,7 @@ not_finished m o calls owner deadline po pd ne = go (was_finished owner deadline
 none_after_finish : (m : Setup) → Opened m → (calls : List Call) → NoneAfterFinish (slots_in (record_of m calls))
 none_after_finish m o = along m (λ s es. NoneAfterFinish (slots_in es)) tt (λ calls call refusal _ h. h) moves
   where
-    moves : (calls : List Call) (call : Call) → refusal_of m (after m calls) call ≡ None → NoneAfterFinish (slots_in (record_of m calls)) → NoneAfterFinish (slots_in (entry call (said m (after m calls) call) ∷ record_of m calls))
+    moves : (calls : List Call) (call : Call) → refusal_of m (after m calls) call ≡ None → NoneAfterFinish (slots_in (record_of m calls)) → NoneAfterFinish (slots_in (entry call (Ok (said m (after m calls) call)) ∷ record_of m calls))
     moves calls (Request j budget) e h = h
     moves calls Grant e h = h
     moves calls (Report unit slot outcome) e h =
