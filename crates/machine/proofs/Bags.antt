@@ -2,7 +2,6 @@
 -- laws are used.
 use Rattle.std.proofs.Common.{◌≡◌, ℕ, ◌+◌, ◌<◌, ◌≤◌, Bool, true, false, cond, leb, ◌⊎◌, List, [], ◌∷◌, length, sym, refl, ap, ◌∙◌, subst, inl, inr, arith}
 use Rattle.std.specs.List.{AllByRecursion}
-use Rattle.std.proofs.ByRecursion.{All-weaker}
 use Rattle.std.proofs.lemmas.Bool.{cases_lt, le-leb, lt-leb}
 use Rattle.pile.proofs.Inserting.{insert_past, insert_here, insert_none}
 use Rattle.queue.specs.declared.job.Job.{Job}
@@ -13,6 +12,7 @@ use Rattle.machine.specs.declared.call.Outcome.{Outcome}
 use Rattle.machine.specs.declared.call.Outcome.TheVariants.{Used, Finished}
 use Rattle.machine.specs.Machine.{put_all, worked}
 use Rattle.machine.specs.History.{is_finish}
+use Rattle.machine.proofs.Each.{each_weaker}
 
 -- PUTTING
 
@@ -80,7 +80,7 @@ rising_put job (first ∷ jobs) r = elim (put_ways job first jobs) [
       subst Rising (sym w.1) (all_put (λ later. first.deadline ≤ later.deadline) job jobs (sooner_due first job w.0) r.0, rising_put job jobs r.1)
   | inr w ↦
       let h = not_sooner_due first job w.0 in
-      subst Rising (sym w.1) ((h, All-weaker (λ later. first.deadline ≤ later.deadline) (λ later. job.deadline ≤ later.deadline) (λ later l. omega arith) jobs r.0), r)
+      subst Rising (sym w.1) ((h, each_weaker (λ later. first.deadline ≤ later.deadline) (λ later. job.deadline ≤ later.deadline) (λ later l. omega arith) jobs r.0), r)
 ]
 
 pub rising_put_all : (jobs bag : List Job) → Rising bag → Rising (put_all jobs bag)
@@ -178,7 +178,7 @@ worked_serves x outcome (job ∷ jobs) p r = go (cases_lt x job.deadline) (work_
     go : (x < job.deadline) ⊎ (job.deadline ≤ x) → Leaves outcome job jobs ⊎ Stays outcome job jobs →
         (work x (worked outcome (job ∷ jobs)) + 1 ≤ work x (job ∷ jobs)) ⊎ (work x (worked outcome (job ∷ jobs)) ≡ 0)
     go (inl h) w =
-        let later : AllByRecursion (λ other. x < other.deadline) jobs = All-weaker (λ other. job.deadline ≤ other.deadline) (λ other. x < other.deadline) (λ other l. omega arith) jobs r.0 in
+        let later : AllByRecursion (λ other. x < other.deadline) jobs = each_weaker (λ other. job.deadline ≤ other.deadline) (λ other. x < other.deadline) (λ other l. omega arith) jobs r.0 in
         inr (elim w [ inl l ↦ ap (work x) l.is ∙ no_work x jobs later | inr s ↦ ap (work x) s.is ∙ no_work x (lowered job ∷ jobs) (h, later) ])
     go (inr h) (inl l) = let q = p.0 in inl (omega (arith, ap (work x) l.is, left_due x job h))
     go (inr h) (inr s) = let m = s.more in inl (omega (arith, ap (work x) s.is, left_due x job h, left_due x (lowered job) h))

@@ -1,7 +1,6 @@
 -- The plain facts of every history: what the record says of slot, open mark and token is so, and the bag is in order.
 use Rattle.std.proofs.Common.{◌≡◌, ℕ, suc, ◌<◌, true, false, cond, List, [], ◌∷◌, Ok, length, None, refl, ap, ◌∙◌, length-set}
 use Rattle.std.specs.List.{AllByRecursion}
-use Rattle.std.proofs.ByRecursion.{All-get_or}
 use Rattle.std.proofs.lemmas.List.{length-map}
 use Rattle.std.proofs.lemmas.Bool.{cond_both, both_ways}
 use Rattle.pile.specs.Sorted.{first_of}
@@ -13,6 +12,7 @@ use Rattle.machine.specs.Polls.{is_released, poll_job, jobs_at}
 use Rattle.machine.specs.Machine.{Setup, State, refusal_of, moved, said, lane_at, released, owner_of, deadline_of}
 use Rattle.machine.specs.History.{Entry, Slot, after, record_of, slots_closed, slot_is_open, last_granted}
 use Rattle.machine.specs.Promises.{Opened, poll_at}
+use Rattle.machine.proofs.Each.{each_at}
 use Rattle.machine.proofs.Tables.{Sound, PollLaws, LaneFits, sound}
 use Rattle.machine.proofs.Bags.{Rising, Positive, rising_put, rising_put_all, rising_worked, all_put, all_put_all, positive_worked}
 use Rattle.machine.proofs.Along.{along, entry}
@@ -23,10 +23,10 @@ pub table_of : (m : Setup) → Opened m → Sound m.table
 table_of m o = sound m.table o.admissible
 
 pub lane_of : (m : Setup) → Opened m → (j : ℕ) → j < length m.table.lanes → LaneFits m.table.cycle (lane_at m j)
-lane_of m o j l = All-get_or (LaneFits m.table.cycle) m.table.lanes j (record { span = 0; quota = 0 }) l (table_of m o).lanes
+lane_of m o j l = each_at (LaneFits m.table.cycle) m.table.lanes j (record { span = 0; quota = 0 }) l (table_of m o).lanes
 
 pub poll_of : (m : Setup) → Opened m → (i : ℕ) → i < length m.table.polls → PollLaws m.table.cycle (poll_at m.table i)
-poll_of m o i l = All-get_or (PollLaws m.table.cycle) m.table.polls i (record { phase = 0; period = 0; budget = 0 }) l (table_of m o).polls
+poll_of m o i l = each_at (PollLaws m.table.cycle) m.table.polls i (record { phase = 0; period = 0; budget = 0 }) l (table_of m o).polls
 
 -- the first slot whose releases have not been put yet
 abbrev pub upto : State → ℕ

@@ -2,7 +2,6 @@
 -- a function of their slots left: by the slots themselves, or by 1.
 use Rattle.std.proofs.Common.{◌≡◌, ℕ, zero, suc, ◌+◌, ◌<◌, ◌≤◌, Bool, true, false, cond, ◌&&◌, eqb, List, [], ◌∷◌, Ok, Err, length, get_or, refl, ap, ◌∙◌, subst, inl, inr, arith}
 use Rattle.std.specs.List.{AllByRecursion}
-use Rattle.std.proofs.ByRecursion.{All-weaker}
 use Rattle.std.proofs.lemmas.Bool.{cases_eq, eq-eqb, ne_eqb}
 use Rattle.std.proofs.lemmas.Bool.Decides.{nat_tests}
 use Rattle.queue.specs.declared.job.Job.{Job}
@@ -17,6 +16,7 @@ use Rattle.machine.specs.Lanes.{lane_owner}
 use Rattle.machine.specs.Machine.{Answer}
 use Rattle.machine.specs.History.{Entry, Accepted, deadlines_of, deadline_by}
 use Rattle.machine.specs.Promises.{Growing}
+use Rattle.machine.proofs.Each.{each_weaker}
 use Rattle.machine.proofs.Releases.{no_poll, released_none, released_one}
 
 module _ (w : ℕ → ℕ) where
@@ -139,7 +139,7 @@ module _ (w : ℕ → ℕ) where
     born_absent (e ∷ es) deadline h = let p = absent_by e.told e.call deadline (deadlines_of j es) h in omega (arith, p.0, born_absent es deadline p.1)
 
     other_than : (deadline : ℕ) (older : List ℕ) → AllByRecursion (λ d. d < deadline) older → AllByRecursion (λ d. d ≡ deadline → ⊥) older
-    other_than deadline older h = All-weaker (λ d. d < deadline) (λ d. d ≡ deadline → ⊥) (λ d l e. omega arith) older h
+    other_than deadline older h = each_weaker (λ d. d < deadline) (λ d. d ≡ deadline → ⊥) (λ d l e. omega arith) older h
 
     -- what holds of all deadlines of the lane holds of the older ones, and of an accepted one
     all_older : (P : ℕ → Type 0) (told : Answer) (call : Call) (older : List ℕ) → AllByRecursion P (deadline_by told call j older) → AllByRecursion P older

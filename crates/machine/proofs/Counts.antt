@@ -1,7 +1,6 @@
 -- How many jobs of each owner can stand in the bag: of a poll one, of a lane as many as it has deadlines ahead.
 use Rattle.std.proofs.Common.{◌≡◌, ℕ, zero, suc, ◌+◌, ◌<◌, ◌≤◌, Bool, true, false, cond, ◌&&◌, eqb, ltb, ◌⊎◌, List, [], ◌∷◌, length, get_or, take, set, None, sym, refl, ap, ◌∙◌, subst, inl, inr, arith}
 use Rattle.std.specs.List.{AllByRecursion}
-use Rattle.std.proofs.ByRecursion.{All-weaker}
 use Rattle.std.proofs.lemmas.List.{get_or-set_same, get_or-set_other}
 use Rattle.std.proofs.lemmas.Bool.{cond_both, cases_eq, cases_lt, lt-ltb, le-ltb}
 use Rattle.std.proofs.lemmas.Bool.Decides.{nat_tests}
@@ -18,6 +17,7 @@ use Rattle.machine.specs.Lanes.{lane_owner, lane_job, ahead}
 use Rattle.machine.specs.Machine.{Setup, State, refusal_of, moved, recent_at, released, new_deadline}
 use Rattle.machine.specs.History.{Entry, after, record_of, deadlines_of}
 use Rattle.machine.specs.Promises.{Opened, Growing, poll_at}
+use Rattle.machine.proofs.Each.{each_weaker, each_taken}
 use Rattle.machine.proofs.Bags.{sum_put, sum_put_all, sum_worked, all_put, all_put_all, all_worked}
 use Rattle.machine.proofs.PollSource.{mark, mark_due}
 use Rattle.machine.proofs.Along.{along}
@@ -63,18 +63,13 @@ ahead_taken x zero deadlines g l = omega arith
 ahead_taken x (suc k) [] g l = refl
 ahead_taken x (suc k) (d ∷ ds) g l = ap (λ y. one_if (ltb x d) + y) (ahead_taken x k ds g.1 (elim (cases_lt x d) [
   | inl h ↦ omega (arith, ap one_if (lt-ltb x d h))
-  | inr h ↦ omega (arith, ahead_none x ds (All-weaker (λ e. e < d) (λ e. e ≤ x) (λ e q. omega arith) ds g.0))
+  | inr h ↦ omega (arith, ahead_none x ds (each_weaker (λ e. e < d) (λ e. e ≤ x) (λ e q. omega arith) ds g.0))
 ]))
 
 growing_taken : (k : ℕ) (deadlines : List ℕ) → Growing deadlines → Growing (take k deadlines)
 growing_taken zero deadlines g = tt
 growing_taken (suc k) [] g = tt
-growing_taken (suc k) (d ∷ ds) g = (all_taken k ds g.0, growing_taken k ds g.1)
-  where
-    all_taken : (k : ℕ) (ds : List ℕ) → AllByRecursion (λ e. e < d) ds → AllByRecursion (λ e. e < d) (take k ds)
-    all_taken zero ds h = tt
-    all_taken (suc k) [] h = tt
-    all_taken (suc k) (e ∷ es) h = (h.0, all_taken k es h.1)
+growing_taken (suc k) (d ∷ ds) g = (each_taken (λ e. e < d) k ds g.0, growing_taken k ds g.1)
 
 -- OWNERS
 
@@ -139,7 +134,7 @@ module _ (m : Setup) (o : Opened m) (s : State) (es : List Entry) (c : Counts m 
         (omega (arith, c.polls i x l h, ap (λ y. one_if (ltb x (mark (poll_at m.table i) y))) (upto_shut s shut)))
         (sum_put_all (is_ahead i x) (released m s) s.bag ∙ ap (λ y. y + sum_of (is_ahead i x) s.bag) (released_one (is_ahead i x) i (ahead_other i x) m.table.polls 0 i s.slot l (omega arith)));
     owned = all_put_all (Owned m.table) (released m s) s.bag
-        (All-weaker (λ job. job.owner < length m.table.polls) (Owned m.table) (λ job h. inl h) (released m s) (released_owned m.table.polls 0 s.slot (length m.table.polls) (omega arith)))
+        (each_weaker (λ job. job.owner < length m.table.polls) (Owned m.table) (λ job h. inl h) (released m s) (released_owned m.table.polls 0 s.slot (length m.table.polls) (omega arith)))
         c.owned;
   }
     where

@@ -1,7 +1,6 @@
 -- A lane's accepted deadlines only grow, and the machine remembers the last eight of them.
 use Rattle.std.proofs.Common.{◌≡◌, ℕ, zero, suc, ◌<◌, true, false, eqb, List, [], ◌∷◌, map, get_or, take, set, Ok, None, sym, refl, ap, ◌∙◌, inl, inr, arith, take-take}
 use Rattle.std.specs.List.{AllByRecursion}
-use Rattle.std.proofs.ByRecursion.{All-weaker}
 use Rattle.std.proofs.lemmas.List.{get_or-set_same, get_or-set_other}
 use Rattle.std.proofs.lemmas.Bool.{cases_eq, eq-eqb, ne_eqb}
 use Rattle.admission.specs.declared.table.Lane.{Lane}
@@ -13,6 +12,7 @@ use Rattle.machine.specs.Lanes.{clock_of}
 use Rattle.machine.specs.Machine.{Setup, State, refusal_of, moved, said, lane_at, recent_at, new_deadline}
 use Rattle.machine.specs.History.{Entry, after, record_of, deadlines_of}
 use Rattle.machine.specs.Promises.{Opened, Growing}
+use Rattle.machine.proofs.Each.{each_weaker}
 use Rattle.machine.proofs.LaneRule.{deadline_grows}
 use Rattle.machine.proofs.Along.{along, entry}
 use Rattle.machine.proofs.Questions.{Asked, request_accepted}
@@ -30,7 +30,7 @@ new_deadline_lem m o s j budget a = deadline_grows m.table.cycle (lane_at m j) (
 -- the newest deadline is the largest
 below_newest : (d : ℕ) (deadlines : List ℕ) → Growing deadlines → clock_of (take most_ahead deadlines) < d → AllByRecursion (λ e. e < d) deadlines
 below_newest d [] g l = tt
-below_newest d (newest ∷ older) g l = (l, All-weaker (λ e. e < newest) (λ e. e < d) (λ e h. omega arith) older g.0)
+below_newest d (newest ∷ older) g l = (l, each_weaker (λ e. e < newest) (λ e. e < d) (λ e h. omega arith) older g.0)
 
 nothing_at : (lanes : List Lane) (j : ℕ) → get_or {A = List ℕ} (map (λ (lane : Lane). []) lanes) j [] ≡ []
 nothing_at [] j = refl

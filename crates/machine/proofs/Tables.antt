@@ -3,7 +3,6 @@ use Rattle.std.proofs.Common.{◌≡◌, ℕ, ◌+◌, ◌*◌, ◌/◌, ◌<◌
 use Prim.Native.Nat.{◌∣◌}
 use native.Mathlib.Nat.{mul-div_cancel'}
 use Rattle.std.specs.List.{AllByRecursion}
-use Rattle.std.proofs.ByRecursion.{All-append}
 use Rattle.std.proofs.lemmas.Bool.{and_parts, leb-true}
 use Rattle.admission.specs.declared.table.Poll.{Poll}
 use Rattle.admission.specs.declared.table.Lane.{Lane}
@@ -15,6 +14,7 @@ use Rattle.admission.specs.Laws.{CommonMultiple}
 use Rattle.admission.proofs.Cycles.{Positive, least_from}
 use Rattle.machine.specs.Limits.{first_lane, most_ahead}
 use Rattle.machine.specs.Polls.{relative_deadline}
+use Rattle.machine.proofs.Each.{each_joined, each_front, each_back}
 
 -- a poll's job is due before the next one is released, and the poll's slots of a cycle pay for its jobs
 pub record PollLaws (cycle : ℕ) (poll : Poll) : Type 0 where
@@ -73,14 +73,6 @@ lane_positive : (lanes : List Lane) → AllByRecursion LaneNumbers lanes → Pos
 lane_positive [] h = tt
 lane_positive (lane ∷ lanes) h = (h.0.some_span, lane_positive lanes h.1)
 
-all_front : {X : Type 0} (P : X → Type 0) (xs ys : List X) → AllByRecursion P (xs ++ ys) → AllByRecursion P xs
-all_front P [] ys h = tt
-all_front P (x ∷ xs) ys h = (h.0, all_front P xs ys h.1)
-
-all_back : {X : Type 0} (P : X → Type 0) (xs ys : List X) → AllByRecursion P (xs ++ ys) → AllByRecursion P ys
-all_back P [] ys h = h
-all_back P (x ∷ xs) ys h = all_back P xs ys h.1
-
 poll_laws : (cycle : ℕ) (polls : List Poll) → AllByRecursion PollNumbers polls → CommonMultiple (map (λ poll. poll.period) polls) cycle → AllByRecursion (PollLaws cycle) polls
 poll_laws cycle [] n d = tt
 poll_laws cycle (poll ∷ polls) n d = (
@@ -107,11 +99,11 @@ sound table a =
     let spans = map (λ (lane : Lane). lane.span) table.lanes in
     let ps = all_pass poll_fits PollNumbers poll_numbers table.polls a.polls_fit in
     let ls = all_pass lane_fits LaneNumbers lane_numbers table.lanes a.lanes_fit in
-    let least = least_from 1 (periods ++ spans) (omega arith) (All-append (λ n. 0 < n) periods spans (poll_positive table.polls ps) (lane_positive table.lanes ls)) in
+    let least = least_from 1 (periods ++ spans) (omega arith) (each_joined (λ n. 0 < n) periods spans (poll_positive table.polls ps) (lane_positive table.lanes ls)) in
     let common : CommonMultiple (periods ++ spans) table.cycle = subst (CommonMultiple (periods ++ spans)) (sym a.cycle_is) least.common in
     record {
-      polls = poll_laws table.cycle table.polls ps (all_front (λ n. n ∣ table.cycle) periods spans common);
-      lanes = lane_laws table.cycle table.lanes ls (all_back (λ n. n ∣ table.cycle) periods spans common);
+      polls = poll_laws table.cycle table.polls ps (each_front (λ n. n ∣ table.cycle) periods spans common);
+      lanes = lane_laws table.cycle table.lanes ls (each_back (λ n. n ∣ table.cycle) periods spans common);
       few_polls = a.few_polls;
       few_lanes = a.few_lanes;
       some_cycle = (let e = a.cycle_is in let p = least.some in omega arith);
