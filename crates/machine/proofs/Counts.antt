@@ -1,7 +1,6 @@
 -- How many jobs of each owner can stand in the bag: of a poll one, of a lane as many as it has deadlines ahead.
-use Rattle.std.proofs.Common.{◌≡◌, ℕ, zero, suc, ◌+◌, ◌<◌, ◌≤◌, Bool, true, false, cond, ◌&&◌, eqb, ltb, ◌⊎◌, List, [], ◌∷◌, length, get_or, take, set, None, sym, refl, ap, ◌∙◌, subst, inl, inr, arith}
+use Rattle.std.proofs.Common.{◌≡◌, ℕ, zero, suc, ◌+◌, ◌<◌, ◌≤◌, Bool, true, false, cond, ◌&&◌, eqb, ltb, ◌⊎◌, List, [], ◌∷◌, length, take, None, sym, refl, ap, ◌∙◌, subst, inl, inr, arith}
 use Rattle.std.specs.List.{AllByRecursion}
-use Rattle.std.proofs.lemmas.List.{get_or-set_same, get_or-set_other}
 use Rattle.std.proofs.lemmas.Bool.{cond_both, cases_eq, cases_lt, lt-ltb, le-ltb}
 use Rattle.std.proofs.lemmas.Bool.Decides.{nat_tests}
 use Rattle.queue.specs.declared.job.Job.{Job}
@@ -22,7 +21,7 @@ use Rattle.machine.proofs.Bags.{sum_put, sum_put_all, sum_worked, all_put, all_p
 use Rattle.machine.proofs.PollSource.{mark, mark_due}
 use Rattle.machine.proofs.Along.{along}
 use Rattle.machine.proofs.Questions.{Asked, request_accepted, grant_accepted, report_accepted}
-use Rattle.machine.proofs.Basics.{table_of, poll_of, upto, upto_shut, upto_open, Basic, basic}
+use Rattle.machine.proofs.Basics.{table_of, poll_of, recent_own, recent_other, upto, upto_shut, upto_open, Basic, basic}
 use Rattle.machine.proofs.LaneDeadlines.{Remembered, remembered}
 use Rattle.machine.proofs.Releases.{released_none, released_one}
 
@@ -96,8 +95,7 @@ module _ (m : Setup) (o : Opened m) (s : State) (es : List Entry) (c : Counts m 
   counts_request k budget a b r = record {
     lanes = λ j x l. elim (cases_eq j k) [
       | inl q ↦
-          let here : recent_at (moved m s (Request k budget)) j ≡ take most_ahead (new_deadline m s k budget ∷ recent_at s k) =
-          ap (λ i. get_or (set s.recent k (take most_ahead (new_deadline m s k budget ∷ recent_at s k))) i []) q ∙ get_or-set_same s.recent k _ [] (omega (arith, a.lane, b.lanes)) in
+          let here = recent_own m s j k budget q (omega (arith, a.lane, b.lanes)) in
           let growing : Growing (recent_at s k) = subst Growing (sym r.recent_is) (growing_taken most_ahead (deadlines_of k es) r.growing) in
           let kept : ahead x (take 7 (recent_at s k)) ≡ ahead x (recent_at s k) = ahead_taken x 7 (recent_at s k) growing (omega (arith, ahead_less s.slot x (recent_at s k) l, a.few)) in
           omega (
@@ -110,7 +108,7 @@ module _ (m : Setup) (o : Opened m) (s : State) (es : List Entry) (c : Counts m 
             ap (λ i. ahead x (recent_at s i)) q,
           )
       | inr ne ↦
-          let there : recent_at (moved m s (Request k budget)) j ≡ recent_at s j = get_or-set_other s.recent k j (take most_ahead (new_deadline m s k budget ∷ recent_at s k)) [] ne in
+          let there = recent_other m s j k budget ne in
           omega (arith, sum_put (is_ahead (lane_owner j) x) (job k budget) s.bag, ahead_other (lane_owner j) x (job k budget) (λ e. ne (omega arith)), c.lanes j x l, ap (ahead x) there)
     ];
     polls = λ i x l h. omega (arith, sum_put (is_ahead i x) (job k budget) s.bag, ahead_other i x (job k budget) (λ e. omega (arith, l, (table_of m o).few_polls)), c.polls i x l h);

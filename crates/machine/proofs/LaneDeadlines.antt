@@ -1,9 +1,7 @@
 -- A lane's accepted deadlines only grow, and the machine remembers the last eight of them.
-use Rattle.std.proofs.Common.{◌≡◌, ℕ, zero, suc, ◌<◌, true, false, eqb, List, [], ◌∷◌, map, get_or, take, set, Ok, None, sym, refl, ap, ◌∙◌, inl, inr, arith, take-take}
+use Rattle.std.proofs.Common.{◌≡◌, ℕ, ◌<◌, true, false, eqb, List, [], ◌∷◌, take, Ok, None, sym, ap, ◌∙◌, inl, inr, arith, take-take}
 use Rattle.std.specs.List.{AllByRecursion}
-use Rattle.std.proofs.lemmas.List.{get_or-set_same, get_or-set_other}
 use Rattle.std.proofs.lemmas.Bool.{cases_eq, eq-eqb, ne_eqb}
-use Rattle.admission.specs.declared.table.Lane.{Lane}
 use Rattle.machine.specs.declared.call.Call.{Call}
 use Rattle.machine.specs.declared.call.Call.TheVariants.{Request, Grant, Report}
 use Rattle.machine.specs.declared.call.Reply.TheVariants.{Deadline}
@@ -16,7 +14,7 @@ use Rattle.machine.proofs.Each.{each_weaker}
 use Rattle.machine.proofs.LaneRule.{deadline_grows}
 use Rattle.machine.proofs.Along.{along, entry}
 use Rattle.machine.proofs.Questions.{Asked, request_accepted}
-use Rattle.machine.proofs.Basics.{lane_of, Basic, basic}
+use Rattle.machine.proofs.Basics.{lane_of, recent_at_first, recent_own, recent_other, Basic, basic}
 
 pub record Remembered (s : State) (es : List Entry) (j : ℕ) : Type 0 where
   pub recent_is : recent_at s j ≡ take most_ahead (deadlines_of j es)
@@ -32,11 +30,6 @@ below_newest : (d : ℕ) (deadlines : List ℕ) → Growing deadlines → clock_
 below_newest d [] g l = tt
 below_newest d (newest ∷ older) g l = (l, each_weaker (λ e. e < newest) (λ e. e < d) (λ e h. omega arith) older g.0)
 
-nothing_at : (lanes : List Lane) (j : ℕ) → get_or {A = List ℕ} (map (λ (lane : Lane). []) lanes) j [] ≡ []
-nothing_at [] j = refl
-nothing_at (lane ∷ lanes) zero = refl
-nothing_at (lane ∷ lanes) (suc j) = nothing_at lanes j
-
 module _ (m : Setup) (o : Opened m) (s : State) (es : List Entry) (k budget : ℕ) (a : Asked m s k budget) (b : Basic m s es) (h : (j : ℕ) → Remembered s es j) where
   remembers_own : (j : ℕ) → j ≡ k → Remembered (moved m s (Request k budget)) (entry (Request k budget) (Ok (Deadline (new_deadline m s k budget))) ∷ es) j
   remembers_own j e =
@@ -44,8 +37,7 @@ module _ (m : Setup) (o : Opened m) (s : State) (es : List Entry) (k budget : �
       let t : eqb k j ≡ true = eq-eqb k j (sym e) in
       let later : clock_of (take most_ahead (deadlines_of j es)) < new_deadline m s k budget =
       omega (arith, (new_deadline_lem m o s k budget a).1, ap (λ i. clock_of (recent_at s i)) e, ap clock_of old.recent_is) in
-      let here : recent_at (moved m s (Request k budget)) j ≡ take most_ahead (new_deadline m s k budget ∷ recent_at s k) =
-      ap (λ i. get_or (set s.recent k (take most_ahead (new_deadline m s k budget ∷ recent_at s k))) i []) e ∙ get_or-set_same s.recent k _ [] (omega (arith, a.lane, b.lanes)) in
+      let here = recent_own m s j k budget e (omega (arith, a.lane, b.lanes)) in
       let kept : take most_ahead (new_deadline m s k budget ∷ recent_at s k) ≡ take most_ahead (new_deadline m s k budget ∷ deadlines_of j es) =
       ap (λ l. take most_ahead (new_deadline m s k budget ∷ l)) (ap (recent_at s) (sym e) ∙ old.recent_is) ∙ ap (λ l. new_deadline m s k budget ∷ l) (take-take 7 8 (deadlines_of j es) (omega arith)) in
       record {
@@ -59,7 +51,7 @@ module _ (m : Setup) (o : Opened m) (s : State) (es : List Entry) (k budget : �
       let old = h j in
       let t : eqb k j ≡ false = ne_eqb k j (λ e. ne (sym e)) in
       record {
-        recent_is = rw t (get_or-set_other s.recent k j (take most_ahead (new_deadline m s k budget ∷ recent_at s k)) [] ne ∙ old.recent_is);
+        recent_is = rw t (recent_other m s j k budget ne ∙ old.recent_is);
         growing = rw t old.growing;
         positive = rw t old.positive;
       }
@@ -75,6 +67,6 @@ remembers_moves m o s es (Report unit slot outcome) e b h j = record { recent_is
 
 pub remembered : (m : Setup) → Opened m → (calls : List Call) (j : ℕ) → Remembered (after m calls) (record_of m calls) j
 remembered m o = along m (λ s es. (j : ℕ) → Remembered s es j)
-    (λ j. record { recent_is = nothing_at m.table.lanes j; growing = tt; positive = tt })
+    (λ j. record { recent_is = recent_at_first m j; growing = tt; positive = tt })
     (λ calls call refusal _ h j. record { recent_is = (h j).recent_is; growing = (h j).growing; positive = (h j).positive })
     (λ calls call e h. remembers_moves m o (after m calls) (record_of m calls) call e (basic m o calls) h)

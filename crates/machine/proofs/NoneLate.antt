@@ -1,8 +1,8 @@
 -- The machine is a run of the sources: its polls and lanes pay for every job, so no job in the bag is ever late.
-use Rattle.std.proofs.Common.{◌≡◌, ℕ, zero, suc, ◌*◌, ◌<◌, ◌≤◌, true, false, List, [], ◌∷◌, ◌++◌, map, get_or, take, set, None, sym, refl, ap, subst, arith}
-use lib.Seq.{map-set}
+use Rattle.std.proofs.Common.{◌≡◌, ℕ, suc, ◌*◌, ◌<◌, ◌≤◌, true, false, List, [], ◌∷◌, ◌++◌, map, take, set, None, sym, ap, subst, arith}
+use Rattle.std.proofs.Math.ListN.{get_or-map}
 use Rattle.std.specs.List.{AllByRecursion}
-use Rattle.std.proofs.lemmas.List.{length-map}
+use Rattle.std.proofs.lemmas.List.{length-map, map-set}
 use Rattle.queue.specs.declared.job.Job.{Job}
 use Rattle.admission.specs.Demand.{lane_slots}
 use Rattle.machine.specs.declared.call.Call.{Call}
@@ -60,16 +60,11 @@ room_request m o s es j budget a b r =
       potentials_append polls after' s.slot x,
       potentials_set (lane_source cycle) (record { span = 0; quota = 0 }) 0 (new_clock m s j budget) s.slot x m.table.lanes (clocks s) j a.lane
           (omega (arith, a.lane, b.lanes, length-map s.recent clock_of)),
-      ap (λ y. (lane_source cycle (lane_at m j) y).potential s.slot x) (clock_at s.recent j),
+      ap (λ y. (lane_source cycle (lane_at m j) y).potential s.slot x) (get_or-map clock_of s.recent j []),
       lane_pays cycle (lane_at m j) (lane_of m o j a.lane) (clock_of (recent_at s j)) budget s.slot x,
     )) in
     subst (λ cs. Room cycle s.slot (moved m s (Request j budget)).bag (polls ++ sources_of (lane_source cycle) m.table.lanes cs))
     (sym (map-set clock_of s.recent j (take most_ahead (new_deadline m s j budget ∷ recent_at s j)))) (paid r)
-  where
-    clock_at : (all : List (List ℕ)) (i : ℕ) → get_or (map clock_of all) i 0 ≡ clock_of (get_or all i [])
-    clock_at [] i = refl
-    clock_at (recent ∷ all) zero = refl
-    clock_at (recent ∷ all) (suc i) = clock_at all i
 
 -- the jobs that a grant releases are paid by their polls
 room_grant : (m : Setup) → Opened m → (s : State) → s.is_open ≡ false → Roomy m s → Roomy m (moved m s Grant)

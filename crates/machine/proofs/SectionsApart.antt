@@ -1,7 +1,6 @@
 -- SECTIONS APART: a lane's answers can be worked out from its own requests alone.
-use Rattle.std.proofs.Common.{◌≡◌, ℕ, zero, suc, ◌<◌, Bool, true, false, not, ◌&&◌, eqb, ltb, leb, List, [], ◌∷◌, map, length, get_or, take, set, Some, None, Option, Ok, Err, is_some, if◌then◌else◌, sym, refl, ap, ◌∙◌, subst, inl, inr, arith}
+use Rattle.std.proofs.Common.{◌≡◌, ℕ, ◌<◌, Bool, true, false, not, ◌&&◌, eqb, ltb, leb, List, [], ◌∷◌, length, get_or, take, Some, None, Option, Ok, Err, is_some, if◌then◌else◌, sym, refl, ap, ◌∙◌, subst, inl, inr, arith}
 use Rattle.std.specs.Option.{option_map_or}
-use Rattle.std.proofs.lemmas.List.{get_or-set_same, get_or-set_other}
 use Rattle.std.proofs.lemmas.Bool.{cases_eq, eq-eqb, ne_eqb, lt-ltb}
 use Rattle.admission.specs.declared.table.Lane.{Lane}
 use Rattle.admission.specs.Contents.{Contents}
@@ -17,7 +16,7 @@ use Rattle.machine.specs.History.{Entry, Ask, after, record_of, asked_of, told_b
 use Rattle.machine.specs.Promises.{Opened, SectionsApart}
 use Rattle.machine.proofs.Along.{along, entry}
 use Rattle.machine.proofs.Questions.{request_accepted}
-use Rattle.machine.proofs.Basics.{basic}
+use Rattle.machine.proofs.Basics.{recent_at_first, recent_own, recent_other, basic}
 use Rattle.machine.proofs.NeverFull.{request_has_place}
 
 -- THE LANE ALONE: what it remembers and answers, from what was asked of it
@@ -101,16 +100,14 @@ module _ (m : Setup) (o : Opened m) (j : ℕ) (l : j < length m.table.lanes) whe
       | inr q ↦
           let t : eqb k j ≡ false = ne_eqb k j q in
           record {
-            recent = rw t (get_or-set_other (after m calls).recent k j _ [] (λ y. q (sym y)) ∙ h.recent);
+            recent = rw t (recent_other m (after m calls) j k budget (λ y. q (sym y)) ∙ h.recent);
             told = rw t h.told;
           }
       | inl q ↦
           let t : eqb k j ≡ true = eq-eqb k j q in
           let r : solo_refusal mine (asking calls budget) ≡ None = same_refusal q ∙ e in
           let a = request_accepted m (after m calls) k budget e in
-          let here : recent_at (moved m (after m calls) (Request k budget)) j ≡ take most_ahead (new_deadline m (after m calls) k budget ∷ recent_at (after m calls) k) =
-          ap (λ i. get_or (set (after m calls).recent k (take most_ahead (new_deadline m (after m calls) k budget ∷ recent_at (after m calls) k))) i []) (sym q)
-          ∙ get_or-set_same (after m calls).recent k _ [] (omega (arith, a.lane, (basic m o calls).lanes)) in
+          let here = recent_own m (after m calls) j k budget (sym q) (omega (arith, a.lane, (basic m o calls).lanes)) in
           let was : recent_at (after m calls) k ≡ mine = ap (recent_at (after m calls)) q ∙ h.recent in
           record {
             recent = rw t (here ∙ (λ i. take most_ahead (same_deadline q i ∷ was i)) ∙ sym (ap (λ x. if is_some x then mine else take most_ahead (solo_deadline (lane_at m j) mine (asking calls budget) ∷ mine)) r));
@@ -118,13 +115,8 @@ module _ (m : Setup) (o : Opened m) (j : ℕ) (l : j < length m.table.lanes) whe
           }
     ]
 
-  nothing_at : (lanes : List Lane) (i : ℕ) → get_or {A = List ℕ} (map (λ (one : Lane). []) lanes) i [] ≡ []
-  nothing_at [] i = refl
-  nothing_at (one ∷ lanes) zero = refl
-  nothing_at (one ∷ lanes) (suc i) = nothing_at lanes i
-
   alone : (calls : List Call) → Alone (after m calls) (record_of m calls)
-  alone = along m Alone (record { recent = nothing_at m.table.lanes j; told = refl }) refused accepted
+  alone = along m Alone (record { recent = recent_at_first m j; told = refl }) refused accepted
     where
       refused : (calls : List Call) (call : Call) (refusal : Refusal) → refusal_of m (after m calls) call ≡ Some refusal → Alone (after m calls) (record_of m calls) → Alone (after m calls) (entry call (Err refusal) ∷ record_of m calls)
       refused calls (Request k budget) refusal e h = alone_refused calls k budget h refusal e
