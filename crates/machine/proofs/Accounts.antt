@@ -13,14 +13,11 @@ use Rattle.machine.specs.Lanes.{lane_job}
 use Rattle.machine.specs.Machine.{Setup, State, refusal_of, moved, said, worked, released, new_deadline, owner_of, deadline_of}
 use Rattle.machine.specs.History.{Entry, Slot, after, record_of, last_granted, is_finish, slots_in, went_to, slots_of, was_finished}
 use Rattle.machine.specs.Promises.{Opened}
-use Rattle.machine.proofs.Bags.{Positive, sum_put, sum_put_all, Leaves, Stays, work_ways}
+use Rattle.machine.proofs.Bags.{one_if, Positive, sum_put, sum_put_all, Leaves, Stays, work_ways}
 use Rattle.machine.proofs.Along.{along, entry}
 use Rattle.machine.proofs.Questions.{grant_accepted, report_accepted}
 use Rattle.machine.proofs.Basics.{upto, upto_shut, upto_open, Holds, Basic, basic}
 use Rattle.machine.proofs.Born.{weighed, born_of_polls, born_of_requests}
-
-abbrev pub one_if : Bool → ℕ
-one_if b = cond b 1 0
 
 -- a job is weighed by its slots, or counted as one
 abbrev pub by_slots : ℕ → ℕ

@@ -2,7 +2,7 @@
 -- laws are used.
 use Rattle.std.proofs.Common.{◌≡◌, ℕ, ◌+◌, ◌<◌, ◌≤◌, Bool, true, false, cond, leb, ◌⊎◌, List, [], ◌∷◌, length, sym, refl, ap, ◌∙◌, subst, inl, inr, arith}
 use Rattle.std.specs.List.{AllByRecursion}
-use Rattle.std.proofs.lemmas.Bool.{cases_lt, le-leb, lt-leb}
+use Rattle.std.proofs.lemmas.Bool.{cases_Bool, cases_lt, le-leb, lt-leb}
 use Rattle.pile.proofs.Inserting.{insert_past, insert_here, insert_none}
 use Rattle.queue.specs.declared.job.Job.{Job}
 use Rattle.queue.specs.Jobs.{sooner, put_job, lowered}
@@ -14,27 +14,30 @@ use Rattle.machine.specs.Machine.{put_all, worked}
 use Rattle.machine.specs.History.{is_finish}
 use Rattle.machine.proofs.Each.{each_weaker}
 
+-- a test counted as a number
+abbrev pub one_if : Bool → ℕ
+one_if b = cond b 1 0
+
+pub one_if_most : (b : Bool) → one_if b ≤ 1
+one_if_most true = omega arith
+one_if_most false = omega arith
+
 -- PUTTING
 
 -- where a job is put: in front of the list, or behind its head
 put_ways : (job first : Job) (jobs : List Job) →
     ((sooner first job ≡ true) × (put_job job (first ∷ jobs) ≡ first ∷ put_job job jobs)) ⊎ ((sooner first job ≡ false) × (put_job job (first ∷ jobs) ≡ job ∷ first ∷ jobs))
-put_ways job first jobs = go (sooner first job) refl
-  where
-    go : (b : Bool) → sooner first job ≡ b →
-        ((sooner first job ≡ true) × (put_job job (first ∷ jobs) ≡ first ∷ put_job job jobs)) ⊎ ((sooner first job ≡ false) × (put_job job (first ∷ jobs) ≡ job ∷ first ∷ jobs))
-    go true e = inl (e, insert_past sooner job first jobs e)
-    go false e = inr (e, insert_here sooner job first jobs e)
+put_ways job first jobs = elim (cases_Bool (sooner first job)) [
+  | inl e ↦ inl (e, insert_past sooner job first jobs e)
+  | inr e ↦ inr (e, insert_here sooner job first jobs e)
+]
 
 pub sum_put : (f : Job → ℕ) (job : Job) (jobs : List Job) → sum_of f (put_job job jobs) ≡ f job + sum_of f jobs
 sum_put f job [] = ap (sum_of f) (insert_none sooner job)
-sum_put f job (first ∷ jobs) = go (sum_put f job jobs) (put_ways job first jobs)
-  where
-    go : sum_of f (put_job job jobs) ≡ f job + sum_of f jobs →
-        ((sooner first job ≡ true) × (put_job job (first ∷ jobs) ≡ first ∷ put_job job jobs)) ⊎ ((sooner first job ≡ false) × (put_job job (first ∷ jobs) ≡ job ∷ first ∷ jobs)) →
-        sum_of f (put_job job (first ∷ jobs)) ≡ f job + sum_of f (first ∷ jobs)
-    go h (inl w) = ap (sum_of f) w.1 ∙ omega (arith, h)
-    go h (inr w) = ap (sum_of f) w.1
+sum_put f job (first ∷ jobs) = elim (put_ways job first jobs) [
+  | inl w ↦ omega (arith, ap (sum_of f) w.1, sum_put f job jobs)
+  | inr w ↦ ap (sum_of f) w.1
+]
 
 pub all_put : (P : Job → Type 0) (job : Job) (jobs : List Job) → P job → AllByRecursion P jobs → AllByRecursion P (put_job job jobs)
 all_put P job [] p h = subst (AllByRecursion P) (sym (insert_none sooner job)) (p, tt)
@@ -62,11 +65,10 @@ length_is_sum (job ∷ jobs) = omega (arith, length_is_sum jobs)
 
 -- what does not run sooner is due no sooner
 not_sooner_due : (x y : Job) → sooner x y ≡ false → y.deadline ≤ x.deadline
-not_sooner_due x y h = go (sooner y x) refl
-  where
-    go : (b : Bool) → sooner y x ≡ b → y.deadline ≤ x.deadline
-    go true e = sooner_due y x e
-    go false e = omega (arith, ap (λ (job : Job). job.deadline) (sooner_total.same x y h e))
+not_sooner_due x y h = elim (cases_Bool (sooner y x)) [
+  | inl e ↦ sooner_due y x e
+  | inr e ↦ omega (arith, ap (λ (job : Job). job.deadline) (sooner_total.same x y h e))
+]
 
 -- no job is due before one in front of it
 abbrev pub Rising : List Job → Type 0

@@ -17,16 +17,13 @@ use Rattle.machine.specs.Machine.{Setup, State, refusal_of, moved, recent_at, re
 use Rattle.machine.specs.History.{Entry, after, record_of, deadlines_of}
 use Rattle.machine.specs.Promises.{Opened, Growing, poll_at}
 use Rattle.machine.proofs.Each.{each_weaker, each_taken}
-use Rattle.machine.proofs.Bags.{sum_put, sum_put_all, sum_worked, all_put, all_put_all, all_worked}
+use Rattle.machine.proofs.Bags.{one_if, one_if_most, sum_put, sum_put_all, sum_worked, all_put, all_put_all, all_worked}
 use Rattle.machine.proofs.PollSource.{mark, mark_due}
 use Rattle.machine.proofs.Along.{along}
 use Rattle.machine.proofs.Questions.{Asked, request_accepted, grant_accepted, report_accepted}
 use Rattle.machine.proofs.Basics.{table_of, poll_of, recent_own, recent_other, upto, upto_shut, upto_open, Basic, basic}
 use Rattle.machine.proofs.LaneDeadlines.{Remembered, remembered}
 use Rattle.machine.proofs.Releases.{released_none, released_one}
-
-abbrev pub one_if : Bool → ℕ
-one_if b = cond b 1 0
 
 -- one if the job is the owner's and due after x
 abbrev pub is_ahead : ℕ → ℕ → Job → ℕ
@@ -48,13 +45,9 @@ ahead_less : (n x : ℕ) (deadlines : List ℕ) → n ≤ x → ahead x deadline
 ahead_less n x [] l = omega arith
 ahead_less n x (d ∷ ds) l = let r = ahead_less n x ds l in grind (arith, nat_tests)
 
-one_most : (b : Bool) → one_if b ≤ 1
-one_most true = omega arith
-one_most false = omega arith
-
 pub ahead_most : (x : ℕ) (deadlines : List ℕ) → ahead x deadlines ≤ length deadlines
 ahead_most x [] = omega arith
-ahead_most x (d ∷ ds) = omega (arith, one_most (ltb x d), ahead_most x ds)
+ahead_most x (d ∷ ds) = omega (arith, one_if_most (ltb x d), ahead_most x ds)
 
 -- the first k of growing deadlines hold all that are ahead, if these are at most k
 ahead_taken : (x k : ℕ) (deadlines : List ℕ) → Growing deadlines → ahead x deadlines ≤ k → ahead x (take k deadlines) ≡ ahead x deadlines

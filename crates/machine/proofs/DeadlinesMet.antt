@@ -3,7 +3,6 @@ use Rattle.std.proofs.Common.{◌≡◌, ℕ, suc, ◌+◌, ◌*◌, ◌<◌, �
 use Rattle.std.specs.List.{AllByRecursion}
 use Rattle.std.proofs.lemmas.Bool.{cond_both}
 use Rattle.std.proofs.lemmas.Bool.Decides.{nat_tests}
-use Rattle.pile.specs.Sorted.{first_of}
 use Rattle.queue.specs.declared.job.Job.{Job}
 use Rattle.admission.specs.declared.table.Poll.{Poll}
 use Rattle.admission.specs.Sums.{sum_of}
@@ -11,14 +10,14 @@ use Rattle.machine.specs.declared.call.Call.{Call}
 use Rattle.machine.specs.declared.call.Call.TheVariants.{Request, Grant, Report}
 use Rattle.machine.specs.Limits.{nobody}
 use Rattle.machine.specs.Lanes.{lane_owner}
-use Rattle.machine.specs.Machine.{Setup, State, refusal_of, said, owner_of, deadline_of}
+use Rattle.machine.specs.Machine.{Setup, State, refusal_of, said}
 use Rattle.machine.specs.History.{Slot, after, record_of, slots_closed, slots_in, Accepted}
 use Rattle.machine.specs.Promises.{Opened, poll_at, poll_deadline, Over, DeadlinesMet}
 use Rattle.machine.proofs.PollSource.{released_at}
 use Rattle.machine.proofs.Along.{along, entry}
 use Rattle.machine.proofs.Questions.{report_accepted}
 use Rattle.machine.proofs.Basics.{table_of, poll_of, upto, basic}
-use Rattle.machine.proofs.NoneLate.{never_late}
+use Rattle.machine.proofs.NoneLate.{never_late, first_in_time}
 use Rattle.machine.proofs.LaneDeadlines.{remembered}
 use Rattle.machine.proofs.Born.{weighed, born_of_none, born_of_no_request, born_after, born_accepted, accepted_has}
 use Rattle.machine.proofs.Accounts.{by_slots, born, account}
@@ -71,10 +70,6 @@ request_over m o calls j budget deadline a l =
 abbrev InTime : List Slot → Type 0
 InTime slots = AllByRecursion (λ slot. (slot.owner ≡ nobody → ⊥) → slot.number < slot.deadline) slots
 
-first_later : (n : ℕ) (jobs : List Job) → AllByRecursion (λ job. n < job.deadline) jobs → (owner_of (first_of jobs) ≡ nobody → ⊥) → n < deadline_of (first_of jobs)
-first_later n [] h ne = absurd (ne refl)
-first_later n (job ∷ jobs) h ne = h.0
-
 in_time : (m : Setup) → Opened m → (calls : List Call) → InTime (slots_in (record_of m calls))
 in_time m o = along m (λ s es. InTime (slots_in es)) tt (λ calls call refusal _ h. h) moves
   where
@@ -83,7 +78,7 @@ in_time m o = along m (λ s es. InTime (slots_in es)) tt (λ calls call refusal 
     moves calls Grant e h = h
     moves calls (Report unit slot outcome) e h =
         let held = (basic m o calls).held (report_accepted m (after m calls) unit slot outcome e) in (
-          (λ ne. omega (arith, held.number, held.deadline, first_later (after m calls).slot (after m calls).bag (never_late m o calls) (λ q. ne (held.owner ∙ q)))),
+          (λ ne. omega (arith, held.number, held.deadline, first_in_time m o calls (λ q. ne (held.owner ∙ q)))),
           h,
         )
 

@@ -1,5 +1,6 @@
 -- EARLIEST DEADLINE FIRST, over any sources of work. This file knows no poll, no lane, no machine and no rule about ties.
-use Rattle.std.proofs.Common.{◌≡◌, ℕ, zero, suc, ◌+◌, ◌-◌, ◌*◌, ◌<◌, ◌≤◌, ◌⊎◌, List, [], ◌∷◌, ◌++◌, length, get_or, set, refl, ap, inl, inr, mul-le-mul_right, mul-le-mul_left, arith}
+use Rattle.std.proofs.Common.{◌≡◌, ℕ, zero, suc, ◌+◌, ◌-◌, ◌*◌, ◌<◌, ◌≤◌, ◌⊎◌, List, [], ◌∷◌, ◌++◌, length, get_or, set, ap, inl, inr, mul-le-mul_right, mul-le-mul_left, arith}
+use Rattle.std.proofs.Math.Nat.{lt_of_mul-lt-mul_left}
 use Rattle.std.specs.List.{AllByRecursion}
 use Rattle.queue.specs.declared.job.Job.{Job}
 use Rattle.admission.specs.Sums.{sum_of}
@@ -57,14 +58,11 @@ room_served cycle n bag bag' sources h serves r x l = elim (serves x) [
 
 -- THE THEOREM: at x = n the invariant leaves less than one slot of work, so no job in the bag is late
 pub none_late : (cycle n : ℕ) (bag : List Job) (sources : List Source) → 1 ≤ cycle → Positive bag → Room cycle n bag sources → AllByRecursion (λ job. n < job.deadline) bag
-none_late cycle n bag sources one p r = all_later n bag p (none (work n bag) (omega (arith, r n (omega arith), ap (λ y. cycle * y) q)))
-  where
-    q : n - n ≡ 0
-    q = omega arith
-
-    none : (w : ℕ) → cycle * w ≤ cycle - 1 → w ≡ 0
-    none zero h = refl
-    none (suc w) h = absurd (omega arith)
+none_late cycle n bag sources one p r =
+    let now : n - n ≡ 0 = omega arith in
+    let less : cycle * work n bag < cycle * 1 = omega (arith, r n (omega arith), ap (λ y. cycle * y) now) in
+    let none = lt_of_mul-lt-mul_left cycle less in
+    all_later n bag p (omega arith)
 
 -- FAMILIES of sources
 

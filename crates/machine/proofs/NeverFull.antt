@@ -1,8 +1,9 @@
 -- NEVER FULL: each poll has at most one job in the bag, each lane at most eight, so there is always a place.
-use Rattle.std.proofs.Common.{◌≡◌, ℕ, zero, suc, ◌+◌, ◌-◌, ◌*◌, ◌<◌, ◌≤◌, Bool, true, false, cond, not, ◌&&◌, ltb, leb, ◌⊎◌, List, [], ◌∷◌, Ok, Err, length, get_or, Some, None, refl, ap, ◌∙◌, inl, inr, arith, length-take}
+use Rattle.std.proofs.Common.{◌≡◌, ℕ, zero, suc, ◌+◌, ◌-◌, ◌*◌, ◌<◌, ◌≤◌, Bool, true, false, cond, not, ◌&&◌, ltb, leb, ◌⊎◌, List, [], ◌∷◌, Ok, Err, length, get_or, Some, None, refl, ap, subst, inl, inr, arith, length-take}
 use Rattle.std.specs.List.{AllByRecursion}
-use Rattle.std.proofs.lemmas.Bool.{cases_eq, le-ltb, ltb-true, ltb-false, leb-false}
+use Rattle.std.proofs.lemmas.Bool.{not-true, cases_eq, le-ltb, ltb-true, ltb-false, leb-false}
 use Rattle.std.proofs.lemmas.Bool.Decides.{nat_tests}
+use Rattle.std.proofs.lemmas.Option.{same_Some, none-some}
 use Rattle.queue.specs.declared.job.Job.{Job}
 use Rattle.admission.specs.declared.table.Poll.{Poll}
 use Rattle.admission.specs.Contents.{Contents}
@@ -11,21 +12,20 @@ use Rattle.machine.specs.declared.call.Call.{Call}
 use Rattle.machine.specs.declared.call.Call.TheVariants.{Request, Grant, Report}
 use Rattle.machine.specs.declared.refusal.Refusal.{Refusal}
 use Rattle.machine.specs.declared.refusal.Refusal.TheVariants.{DuringSlot, NoSuchLane, BudgetOutOfRange, LaneAhead, QueueFull, SlotOpen, SlotsUsedUp, NoPlaceForRelease, Unopened, NotThisSlot}
-use Rattle.machine.specs.Refusals.{refusal_number}
 use Rattle.machine.specs.Limits.{most_budget, most_ahead, slots_in_all, first_lane}
 use Rattle.machine.specs.Polls.{is_released, poll_job, jobs_at}
 use Rattle.machine.specs.Lanes.{lane_owner, ahead}
 use Rattle.machine.specs.Machine.{Setup, State, places_for, recent_at, released, refusal_of, said, ask}
 use Rattle.machine.specs.History.{Entry, after, record_of, deadlines_of}
 use Rattle.machine.specs.Promises.{Opened, poll_at, HasPlace, NeverFull}
+use Rattle.machine.proofs.Bags.{one_if, one_if_most}
 use Rattle.machine.proofs.PollSource.{mark, mark_due}
 use Rattle.machine.proofs.Along.{along}
-use Rattle.std.proofs.lemmas.Bool.{not-true}
 use Rattle.machine.proofs.Basics.{poll_of, upto, upto_shut}
 use Rattle.machine.proofs.NoneLate.{never_late}
 use Rattle.machine.proofs.LaneDeadlines.{Remembered, remembered}
 use Rattle.machine.proofs.Releases.{no_poll}
-use Rattle.machine.proofs.Counts.{one_if, is_ahead, ahead_most, Owned, Counts, counts}
+use Rattle.machine.proofs.Counts.{is_ahead, ahead_most, Owned, Counts, counts}
 
 -- SUMS OVER OWNERS
 
@@ -106,12 +106,8 @@ module _ (m : Setup) (o : Opened m) (s : State) (es : List Entry) (c : Counts m 
         length-take most_ahead (deadlines_of (owner - first_lane) es),
       )
 
-  one_most : (b : Bool) → one_if b ≤ 1
-  one_most true = omega arith
-  one_most false = omega arith
-
   poll_most : (i : ℕ) → i < length m.table.polls → sum_of (is_ahead i s.slot) s.bag ≤ 1
-  poll_most i l = omega (arith, c.polls i s.slot l (omega arith), one_most (ltb s.slot (mark (poll_at m.table i) (upto s))))
+  poll_most i l = omega (arith, c.polls i s.slot l (omega arith), one_if_most (ltb s.slot (mark (poll_at m.table i) (upto s))))
 
   request_room : (j : ℕ) → j < length m.table.lanes → ahead s.slot (recent_at s j) < most_ahead → length s.bag < places_for m.table
   request_room j l few =
@@ -147,41 +143,32 @@ module _ (m : Setup) (o : Opened m) (s : State) (es : List Entry) (c : Counts m 
 
 -- THE QUESTIONS
 
-some_inj : (x y : Refusal) → Some x ≡ Some y → x ≡ y
-some_inj x y e = cc
-
-never : (which : Refusal) → None ≡ Some which → ⊥
-never which e = let z : ◌≡◌ {A = ℕ} 0 1 = cc in omega arith
-
--- a refusal whose number is another one
-other : (refusal which : Refusal) (n : ℕ) → Some refusal ≡ Some which → (refusal_number refusal ≡ n → ⊥) → refusal_number which ≡ n → ⊥
-other refusal which n e ne q = ne (ap refusal_number (some_inj refusal which e) ∙ q)
-
-spared : (refusal which : Refusal) → Some refusal ≡ Some which → (refusal_number refusal ≡ 34 → ⊥) → (refusal_number refusal ≡ 42 → ⊥) → HasPlace (Err which)
-spared refusal which e a b = (other refusal which 34 e a, other refusal which 42 e b)
+-- a refusal that is told by another number is not for want of a place
+spared : (refusal which : Refusal) → HasPlace (Err refusal) → Some refusal ≡ Some which → HasPlace (Err which)
+spared refusal which p e = subst (λ r. HasPlace (Err r)) (same_Some refusal which e) p
 
 -- a request is refused by another question than the last, or the lane is there and has few ahead and there is no place
 request_ways : (shut lane range few place : Bool) (which : Refusal) →
     ask shut DuringSlot (ask lane NoSuchLane (ask range BudgetOutOfRange (ask few LaneAhead (ask place QueueFull None)))) ≡ Some which →
     ((lane ≡ true) × (few ≡ true) × (place ≡ false)) ⊎ HasPlace (Err which)
-request_ways false lane range few place which e = inr (spared DuringSlot which e (λ q. omega arith) (λ q. omega arith))
-request_ways true false range few place which e = inr (spared NoSuchLane which e (λ q. omega arith) (λ q. omega arith))
-request_ways true true false few place which e = inr (spared BudgetOutOfRange which e (λ q. omega arith) (λ q. omega arith))
-request_ways true true true false place which e = inr (spared LaneAhead which e (λ q. omega arith) (λ q. omega arith))
+request_ways false lane range few place which e = inr (spared DuringSlot which (λ q. omega arith, λ q. omega arith) e)
+request_ways true false range few place which e = inr (spared NoSuchLane which (λ q. omega arith, λ q. omega arith) e)
+request_ways true true false few place which e = inr (spared BudgetOutOfRange which (λ q. omega arith, λ q. omega arith) e)
+request_ways true true true false place which e = inr (spared LaneAhead which (λ q. omega arith, λ q. omega arith) e)
 request_ways true true true true false which e = inl (refl, refl, refl)
-request_ways true true true true true which e = absurd (never which e)
+request_ways true true true true true which e = absurd (none-some which e)
 
 grant_ways : (opened shut more place : Bool) (which : Refusal) → ask opened Unopened (ask shut SlotOpen (ask more SlotsUsedUp (ask place NoPlaceForRelease None))) ≡ Some which →
     ((shut ≡ true) × (place ≡ false)) ⊎ HasPlace (Err which)
-grant_ways false shut more place which e = inr (spared Unopened which e (λ q. omega arith) (λ q. omega arith))
-grant_ways true false more place which e = inr (spared SlotOpen which e (λ q. omega arith) (λ q. omega arith))
-grant_ways true true false place which e = inr (spared SlotsUsedUp which e (λ q. omega arith) (λ q. omega arith))
+grant_ways false shut more place which e = inr (spared Unopened which (λ q. omega arith, λ q. omega arith) e)
+grant_ways true false more place which e = inr (spared SlotOpen which (λ q. omega arith, λ q. omega arith) e)
+grant_ways true true false place which e = inr (spared SlotsUsedUp which (λ q. omega arith, λ q. omega arith) e)
 grant_ways true true true false which e = inl (refl, refl)
-grant_ways true true true true which e = absurd (never which e)
+grant_ways true true true true which e = absurd (none-some which e)
 
 report_ways : (right : Bool) (which : Refusal) → ask right NotThisSlot None ≡ Some which → HasPlace (Err which)
-report_ways false which e = spared NotThisSlot which e (λ q. omega arith) (λ q. omega arith)
-report_ways true which e = absurd (never which e)
+report_ways false which e = spared NotThisSlot which (λ q. omega arith, λ q. omega arith) e
+report_ways true which e = absurd (none-some which e)
 
 module _ (m : Setup) (o : Opened m) (calls : List Call) where
   pub request_has_place : (j budget : ℕ) (which : Refusal) → refusal_of m (after m calls) (Request j budget) ≡ Some which → HasPlace (Err which)

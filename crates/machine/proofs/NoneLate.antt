@@ -1,16 +1,17 @@
 -- The machine is a run of the sources: its polls and lanes pay for every job, so no job in the bag is ever late.
-use Rattle.std.proofs.Common.{◌≡◌, ℕ, suc, ◌*◌, ◌<◌, ◌≤◌, true, false, List, [], ◌∷◌, ◌++◌, map, take, set, None, sym, ap, subst, arith}
+use Rattle.std.proofs.Common.{◌≡◌, ◌≢◌, ℕ, suc, ◌*◌, ◌<◌, ◌≤◌, true, false, List, [], ◌∷◌, ◌++◌, map, take, set, None, sym, refl, ap, subst, arith}
 use Rattle.std.proofs.Math.ListN.{get_or-map}
 use Rattle.std.specs.List.{AllByRecursion}
 use Rattle.std.proofs.lemmas.List.{length-map, map-set}
+use Rattle.pile.specs.Sorted.{first_of}
 use Rattle.queue.specs.declared.job.Job.{Job}
 use Rattle.admission.specs.Demand.{lane_slots}
 use Rattle.machine.specs.declared.call.Call.{Call}
 use Rattle.machine.specs.declared.call.Call.TheVariants.{Request, Grant, Report}
 use Rattle.machine.specs.declared.call.Outcome.{Outcome}
-use Rattle.machine.specs.Limits.{most_ahead}
+use Rattle.machine.specs.Limits.{most_ahead, nobody}
 use Rattle.machine.specs.Lanes.{clock_of, lane_job}
-use Rattle.machine.specs.Machine.{Setup, State, fresh, refusal_of, moved, lane_at, recent_at, released, new_clock, new_deadline}
+use Rattle.machine.specs.Machine.{Setup, State, fresh, refusal_of, moved, lane_at, recent_at, released, new_clock, new_deadline, owner_of, deadline_of}
 use Rattle.machine.specs.History.{Entry, after, record_of}
 use Rattle.machine.specs.Promises.{Opened}
 use Rattle.machine.proofs.Bags.{left_by, sum_put, sum_put_all, worked_serves}
@@ -106,3 +107,11 @@ room m o = along m (λ s es. Roomy m s)
 pub never_late : (m : Setup) → Opened m → (calls : List Call) → AllByRecursion (λ job. (after m calls).slot < job.deadline) (after m calls).bag
 never_late m o calls =
     none_late m.table.cycle (after m calls).slot (after m calls).bag (sources m (after m calls)) (table_of m o).some_cycle (basic m o calls).positive (room m o calls)
+
+-- so the present slot, where it goes to a job, lies below that job's deadline
+pub first_in_time : (m : Setup) → Opened m → (calls : List Call) → (owner_of (first_of (after m calls).bag) ≢ nobody) → (after m calls).slot < deadline_of (first_of (after m calls).bag)
+first_in_time m o calls ne = first (after m calls).bag (never_late m o calls) ne
+  where
+    first : (jobs : List Job) → AllByRecursion (λ job. (after m calls).slot < job.deadline) jobs → (owner_of (first_of jobs) ≢ nobody) → (after m calls).slot < deadline_of (first_of jobs)
+    first [] h none = absurd (none refl)
+    first (job ∷ jobs) h none = h.0

@@ -1,6 +1,5 @@
 -- WITHIN THE BUDGET: a job's account never holds more than was born of it, and a finished job is not in the bag any more.
 use Rattle.std.proofs.Common.{◌≡◌, ℕ, ◌-◌, ◌<◌, ◌≤◌, Bool, true, false, cond, List, [], ◌∷◌, Ok, length, None, sym, refl, ap, ◌∙◌, subst, inl, inr, arith}
-use Rattle.std.specs.List.{AllByRecursion}
 use Rattle.std.proofs.lemmas.Bool.{cases_lt}
 use Rattle.std.proofs.lemmas.Bool.Decides.{nat_tests}
 use Rattle.pile.specs.Sorted.{first_of}
@@ -16,7 +15,7 @@ use Rattle.machine.specs.Promises.{Opened, poll_at, poll_deadline, NoneAfterFini
 use Rattle.machine.proofs.Along.{along, entry}
 use Rattle.machine.proofs.Questions.{report_accepted}
 use Rattle.machine.proofs.Basics.{table_of, poll_of, upto, basic}
-use Rattle.machine.proofs.NoneLate.{never_late}
+use Rattle.machine.proofs.NoneLate.{first_in_time}
 use Rattle.machine.proofs.LaneDeadlines.{remembered}
 use Rattle.machine.proofs.Born.{weighed, born_of_requests, born_of_none, born_of_no_request, born_most, born_accepted, born_once, accepted_has}
 use Rattle.machine.proofs.Accounts.{by_slots, as_one, born, account}
@@ -41,10 +40,6 @@ first_counts : (jobs : List Job) → (owner_of (first_of jobs) ≡ nobody → �
 first_counts [] ne = absurd (ne refl)
 first_counts (job ∷ jobs) ne = let z : weighed as_one job.owner job.deadline job ≡ 1 = grind (arith, nat_tests) in omega (arith, z)
 
-first_positive : (n : ℕ) (jobs : List Job) → AllByRecursion (λ job. n < job.deadline) jobs → (owner_of (first_of jobs) ≡ nobody → ⊥) → 0 < deadline_of (first_of jobs)
-first_positive n [] h ne = absurd (ne refl)
-first_positive n (job ∷ jobs) h ne = let q = h.0 in omega arith
-
 -- the open slot's job was not finished before
 not_finished : (m : Setup) → Opened m → (calls : List Call) → (owner deadline : ℕ) → owner ≡ owner_of (first_of (after m calls).bag) → deadline ≡ deadline_of (first_of (after m calls).bag) →
     (owner ≡ nobody → ⊥) → was_finished owner deadline (slots_in (record_of m calls)) ≡ false
@@ -57,7 +52,7 @@ not_finished m o calls owner deadline po pd ne = go (was_finished owner deadline
     some q = ne (po ∙ q)
 
     z : 0 < deadline
-    z = omega (arith, pd, first_positive (after m calls).slot (after m calls).bag (never_late m o calls) some)
+    z = omega (arith, pd, first_in_time m o calls some)
 
     counted : 1 ≤ sum_of (weighed as_one owner deadline) (after m calls).bag
     counted = subst (λ x. 1 ≤ sum_of (weighed as_one x deadline) (after m calls).bag) (sym po)
