@@ -66,13 +66,15 @@ none_late cycle n bag sources one p r =
 
 -- FAMILIES of sources
 
+sum_append : (f : Source → ℕ) (xs ys : List Source) → sum_of f (xs ++ ys) ≡ sum_of f xs + sum_of f ys
+sum_append f [] ys = omega arith
+sum_append f (x ∷ xs) ys = omega (arith, sum_append f xs ys)
+
 pub rates_append : (xs ys : List Source) → rates (xs ++ ys) ≡ rates xs + rates ys
-rates_append [] ys = omega arith
-rates_append (x ∷ xs) ys = omega (arith, rates_append xs ys)
+rates_append = sum_append (λ source. source.rate)
 
 pub potentials_append : (xs ys : List Source) (n x : ℕ) → potentials (xs ++ ys) n x ≡ potentials xs n x + potentials ys n x
-potentials_append [] ys n x = omega arith
-potentials_append (y ∷ xs) ys n x = omega (arith, potentials_append xs ys n x)
+potentials_append xs ys n x = sum_append (λ source. source.potential n x) xs ys
 
 -- one source for each of a list, by what is fixed of it and by its state
 abbrev pub sources_of : {X Y : Type 0} → (X → Y → Source) → List X → List Y → List Source

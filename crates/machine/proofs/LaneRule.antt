@@ -20,12 +20,12 @@ due_at_first lane = refl
 pub deadline_grows : (cycle : ℕ) (lane : Lane) → LaneFits cycle lane → (slot clock budget : ℕ) → 1 ≤ budget →
     (slot < due_at lane (advance lane slot clock budget)) × (due_at lane clock < due_at lane (advance lane slot clock budget))
 deadline_grows cycle lane fits slot clock budget some =
-    let r = go (reach lane budget) (reach_pays lane budget fits.some_quota) (mul-le-mul some fits.some_span) in
-    (omega (arith, r), omega (arith, r))
+    let some_reach : 1 ≤ reach lane budget = some_factor (reach lane budget) (reach_pays lane budget fits.some_quota) (mul-le-mul some fits.some_span) in
+    (omega arith, omega arith)
   where
-    go : (x : ℕ) → budget * lane.span ≤ lane.quota * x → 1 * 1 ≤ budget * lane.span → 1 ≤ x
-    go zero h k = omega arith
-    go (suc x) h k = omega arith
+    some_factor : (x : ℕ) → budget * lane.span ≤ lane.quota * x → 1 * 1 ≤ budget * lane.span → 1 ≤ x
+    some_factor zero h k = omega arith
+    some_factor (suc x) h k = omega arith
 
 -- AS A SOURCE
 

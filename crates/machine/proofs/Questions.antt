@@ -12,7 +12,7 @@ use Rattle.machine.specs.Machine.{Setup, State, ask, recent_at, refusal_of}
 -- an accepted answer: this question's is yes, and so are those of the questions behind it
 answered : (b : Bool) (refusal : Refusal) (behind : Option Refusal) → ask b refusal behind ≡ None → (b ≡ true) × (behind ≡ None)
 answered true refusal behind e = (refl, e)
-answered false refusal behind e = absurd (let z : ◌≡◌ {A = ℕ} 0 1 = cc in omega arith)
+answered false refusal behind e = cc
 
 pub record Asked (m : Setup) (s : State) (j budget : ℕ) : Type 0 where
   pub shut : s.is_open ≡ false

@@ -4,6 +4,7 @@ use Prim.Native.Nat.{◌∣◌}
 use native.Mathlib.Nat.{mul-div_cancel'}
 use Rattle.std.specs.List.{AllByRecursion}
 use Rattle.std.proofs.lemmas.Bool.{and_parts, leb-true}
+use Rattle.std.proofs.lemmas.Bool.Decides.{nat_tests}
 use Rattle.admission.specs.declared.table.Poll.{Poll}
 use Rattle.admission.specs.declared.table.Lane.{Lane}
 use Rattle.admission.specs.Limits.{poll_fits, lane_fits, all_fit}
@@ -46,19 +47,10 @@ record LaneNumbers (lane : Lane) : Type 0 where
   some_quota : 1 ≤ lane.quota
 
 poll_numbers : (poll : Poll) → poll_fits poll ≡ true → PollNumbers poll
-poll_numbers poll h =
-    let a = and_parts _ _ h in
-    let b = and_parts _ _ a.1 in
-    let c = and_parts _ _ b.1 in
-    let d = and_parts _ _ c.1 in
-    record { some_period = leb-true 1 poll.period b.0; some_budget = leb-true 1 poll.budget d.0 }
+poll_numbers poll h = record { some_period = grind (arith, nat_tests); some_budget = grind (arith, nat_tests) }
 
 lane_numbers : (lane : Lane) → lane_fits lane ≡ true → LaneNumbers lane
-lane_numbers lane h =
-    let a = and_parts _ _ h in
-    let b = and_parts _ _ a.1 in
-    let c = and_parts _ _ b.1 in
-    record { some_span = leb-true 1 lane.span a.0; some_quota = leb-true 1 lane.quota c.0 }
+lane_numbers lane h = record { some_span = grind (arith, nat_tests); some_quota = grind (arith, nat_tests) }
 
 all_pass : {X : Type 0} (fits : X → Bool) (P : X → Type 0) → ((x : X) → fits x ≡ true → P x) → (xs : List X) → all_fit fits xs ≡ true → AllByRecursion P xs
 all_pass fits P f [] h = tt
