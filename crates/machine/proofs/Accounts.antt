@@ -1,6 +1,6 @@
 -- The account of a job: what is left of it and what it got make what was born of it, or a report finished it.
 use Rattle.std.proofs.Common.{◌≡◌, ℕ, suc, ◌+◌, ◌-◌, ◌<◌, ◌≤◌, Bool, true, false, cond, ◌&&◌, ◌||◌, eqb, ◌⊎◌, List, [], ◌∷◌, Ok, None, refl, ap, ◌∙◌, inl, inr, arith}
-use Rattle.std.proofs.lemmas.Bool.{or_left, or_right}
+use Rattle.std.proofs.lemmas.Bool.{both_ways, or_left, or_right}
 use Rattle.std.proofs.lemmas.Bool.Decides.{nat_tests}
 use Rattle.pile.specs.Sorted.{first_of}
 use Rattle.queue.specs.declared.job.Job.{Job}
@@ -82,7 +82,7 @@ ones_worked owner deadline z outcome (job ∷ jobs) = go (is_first owner deadlin
     go true e true q (inl l) = omega (arith, ap (sum_of (weighed as_one owner deadline)) l.is, ap one_if e)
     go true e false q (inl l) = omega (arith, ap (sum_of (weighed as_one owner deadline)) l.is)
     go false e f q (inl l) = omega (arith, ap (sum_of (weighed as_one owner deadline)) l.is)
-    go true e true q (inr s) = absurd (let u = s.unfinished in let z : ◌≡◌ {A = ℕ} 0 1 = cc in omega arith)
+    go true e true q (inr s) = absurd (both_ways (is_finish outcome) s.unfinished q)
     go true e false q (inr s) = omega (arith, ap (sum_of (weighed as_one owner deadline)) s.is)
     go false e f q (inr s) = omega (arith, ap (sum_of (weighed as_one owner deadline)) s.is)
 
