@@ -4,6 +4,7 @@ use Rattle.std.proofs.lemmas.Bool.{both_ways, or_left, or_right}
 use Rattle.std.proofs.lemmas.Bool.Decides.{nat_tests}
 use Rattle.pile.specs.Sorted.{first_of}
 use Rattle.queue.specs.declared.job.Job.{Job}
+use Rattle.queue.specs.Jobs.{lowered}
 use Rattle.admission.specs.Sums.{sum_of}
 use Rattle.machine.specs.declared.call.Call.{Call}
 use Rattle.machine.specs.declared.call.Call.TheVariants.{Request, Grant, Report}
@@ -13,7 +14,7 @@ use Rattle.machine.specs.Lanes.{lane_job}
 use Rattle.machine.specs.Machine.{Setup, State, refusal_of, moved, said, worked, released, new_deadline, owner_of, deadline_of}
 use Rattle.machine.specs.History.{Entry, Slot, after, record_of, last_granted, is_finish, slots_in, went_to, slots_of, was_finished}
 use Rattle.machine.specs.Promises.{Opened}
-use Rattle.machine.proofs.Bags.{one_if, Positive, sum_put, sum_put_all, Leaves, Stays, work_ways}
+use Rattle.machine.proofs.Bags.{one_if, one_if_most, Positive, sum_put, sum_put_all, Leaves, Stays, work_ways}
 use Rattle.machine.proofs.Along.{along, entry}
 use Rattle.machine.proofs.Questions.{grant_accepted, report_accepted}
 use Rattle.machine.proofs.Basics.{upto, upto_shut, upto_open, Holds, Basic, basic}
@@ -30,6 +31,13 @@ as_one n = 1
 abbrev pub born : (ℕ → ℕ) → Setup → State → List Entry → ℕ → ℕ → ℕ
 born w m s es owner deadline = born_of_polls w m.table.polls (upto s) owner deadline + born_of_requests w es owner deadline
 
+-- the slots left in the bag of the job of an owner and a deadline, and how often it is there
+abbrev pub slots_left : ℕ → ℕ → List Job → ℕ
+slots_left owner deadline bag = sum_of (weighed by_slots owner deadline) bag
+
+abbrev pub times_in : ℕ → ℕ → List Job → ℕ
+times_in owner deadline bag = sum_of (weighed as_one owner deadline) bag
+
 -- ONE REPORT: what it takes from the account of a job, where the open slot is the first job's
 
 -- is the first job of the bag the one of this owner and deadline
@@ -39,62 +47,62 @@ is_first owner deadline bag = eqb (owner_of (first_of bag)) owner && eqb (deadli
 not_first_of_none : (owner deadline : ℕ) → 0 < deadline → is_first owner deadline [] ≡ false
 not_first_of_none owner deadline z = grind (arith, nat_tests)
 
--- it finishes the job, or takes a slot from it if it is the first, and none else
+-- it finishes the job and takes its slot and what is left, or it takes a slot if the job is the first, and none else
 slots_worked : (owner deadline : ℕ) → 0 < deadline → (outcome : Outcome) (bag : List Job) → Positive bag →
-    ((is_first owner deadline bag && is_finish outcome) ≡ true) ⊎ (sum_of (weighed by_slots owner deadline) (worked outcome bag) + cond (is_first owner deadline bag) 1 0 ≡ sum_of (weighed by_slots owner deadline) bag)
+    (((is_first owner deadline bag && is_finish outcome) ≡ true) × (slots_left owner deadline (worked outcome bag) + 1 ≤ slots_left owner deadline bag))
+    ⊎ (slots_left owner deadline (worked outcome bag) + one_if (is_first owner deadline bag) ≡ slots_left owner deadline bag)
 slots_worked owner deadline z Used [] p = inr (omega (arith, ap one_if (not_first_of_none owner deadline z)))
 slots_worked owner deadline z Finished [] p = inr (omega (arith, ap one_if (not_first_of_none owner deadline z)))
 slots_worked owner deadline z outcome (job ∷ jobs) p = go (is_first owner deadline (job ∷ jobs)) refl (work_ways outcome job jobs)
   where
     go : (b : Bool) → is_first owner deadline (job ∷ jobs) ≡ b → Leaves outcome job jobs ⊎ Stays outcome job jobs →
-        ((b && is_finish outcome) ≡ true) ⊎ (sum_of (weighed by_slots owner deadline) (worked outcome (job ∷ jobs)) + cond b 1 0 ≡ sum_of (weighed by_slots owner deadline) (job ∷ jobs))
+        (((b && is_finish outcome) ≡ true) × (slots_left owner deadline (worked outcome (job ∷ jobs)) + 1 ≤ slots_left owner deadline (job ∷ jobs)))
+        ⊎ (slots_left owner deadline (worked outcome (job ∷ jobs)) + one_if b ≡ slots_left owner deadline (job ∷ jobs))
     go true e (inl l) = elim l.why [
-      | inl finished ↦ inl finished
-      | inr last ↦ let q = p.0 in inr (omega (arith, ap (sum_of (weighed by_slots owner deadline)) l.is, ap (λ b. cond b job.left 0) e))
+      | inl finished ↦ let q = p.0 in inl (finished, omega (arith, ap (slots_left owner deadline) l.is, ap (λ b. cond b job.left 0) e))
+      | inr last ↦ let q = p.0 in inr (omega (arith, ap (slots_left owner deadline) l.is, ap (λ b. cond b job.left 0) e))
     ]
-    go true e (inr s) = let more = s.more in inr (omega (arith, ap (sum_of (weighed by_slots owner deadline)) s.is, ap (λ b. cond b job.left 0) e, ap (λ b. cond b (job.left - 1) 0) e))
-    go false e (inl l) = inr (omega (arith, ap (sum_of (weighed by_slots owner deadline)) l.is, ap (λ b. cond b job.left 0) e))
-    go false e (inr s) = inr (omega (arith, ap (sum_of (weighed by_slots owner deadline)) s.is, ap (λ b. cond b job.left 0) e, ap (λ b. cond b (job.left - 1) 0) e))
+    go false e (inl l) = inr (omega (arith, ap (slots_left owner deadline) l.is, ap (λ b. cond b job.left 0) e))
+    go b e (inr s) = inr (stays b (ap (λ b. cond b job.left 0) e) (ap (λ b. cond b (job.left - 1) 0) e))
+      where
+        stays : (b : Bool) → weighed by_slots owner deadline job ≡ cond b job.left 0 → weighed by_slots owner deadline (lowered job) ≡ cond b (job.left - 1) 0 →
+            slots_left owner deadline (worked outcome (job ∷ jobs)) + one_if b ≡ slots_left owner deadline (job ∷ jobs)
+        stays true was is = let more = s.more in omega (arith, ap (slots_left owner deadline) s.is)
+        stays false was is = omega (arith, ap (slots_left owner deadline) s.is)
 
 -- it never takes more than the account holds
 slots_worked_most : (owner deadline : ℕ) → 0 < deadline → (outcome : Outcome) (bag : List Job) → Positive bag →
-    sum_of (weighed by_slots owner deadline) (worked outcome bag) + cond (is_first owner deadline bag) 1 0 ≤ sum_of (weighed by_slots owner deadline) bag
-slots_worked_most owner deadline z Used [] p = omega (arith, ap one_if (not_first_of_none owner deadline z))
-slots_worked_most owner deadline z Finished [] p = omega (arith, ap one_if (not_first_of_none owner deadline z))
-slots_worked_most owner deadline z outcome (job ∷ jobs) p = go (is_first owner deadline (job ∷ jobs)) refl (work_ways outcome job jobs)
-  where
-    go : (b : Bool) → is_first owner deadline (job ∷ jobs) ≡ b → Leaves outcome job jobs ⊎ Stays outcome job jobs →
-        sum_of (weighed by_slots owner deadline) (worked outcome (job ∷ jobs)) + cond b 1 0 ≤ sum_of (weighed by_slots owner deadline) (job ∷ jobs)
-    go true e (inl l) = let q = p.0 in omega (arith, ap (sum_of (weighed by_slots owner deadline)) l.is, ap (λ b. cond b job.left 0) e)
-    go true e (inr s) = let more = s.more in omega (arith, ap (sum_of (weighed by_slots owner deadline)) s.is, ap (λ b. cond b job.left 0) e, ap (λ b. cond b (job.left - 1) 0) e)
-    go false e (inl l) = omega (arith, ap (sum_of (weighed by_slots owner deadline)) l.is)
-    go false e (inr s) = omega (arith, ap (sum_of (weighed by_slots owner deadline)) s.is, ap (λ b. cond b job.left 0) e, ap (λ b. cond b (job.left - 1) 0) e)
+    slots_left owner deadline (worked outcome bag) + one_if (is_first owner deadline bag) ≤ slots_left owner deadline bag
+slots_worked_most owner deadline z outcome bag p = elim (slots_worked owner deadline z outcome bag p) [
+  | inl f ↦ omega (arith, f.1, one_if_most (is_first owner deadline bag))
+  | inr q ↦ omega (arith, q)
+]
 
 -- a job that is finished leaves the bag
 ones_worked : (owner deadline : ℕ) → 0 < deadline → (outcome : Outcome) (bag : List Job) →
-    sum_of (weighed as_one owner deadline) (worked outcome bag) + cond (is_first owner deadline bag && is_finish outcome) 1 0 ≤ sum_of (weighed as_one owner deadline) bag
+    times_in owner deadline (worked outcome bag) + one_if (is_first owner deadline bag && is_finish outcome) ≤ times_in owner deadline bag
 ones_worked owner deadline z Used [] = let e = not_first_of_none owner deadline z in grind (arith, nat_tests)
 ones_worked owner deadline z Finished [] = let e = not_first_of_none owner deadline z in grind (arith, nat_tests)
 ones_worked owner deadline z outcome (job ∷ jobs) = go (is_first owner deadline (job ∷ jobs)) refl (is_finish outcome) refl (work_ways outcome job jobs)
   where
     go : (b : Bool) → is_first owner deadline (job ∷ jobs) ≡ b → (f : Bool) → is_finish outcome ≡ f → Leaves outcome job jobs ⊎ Stays outcome job jobs →
-        sum_of (weighed as_one owner deadline) (worked outcome (job ∷ jobs)) + cond (b && f) 1 0 ≤ sum_of (weighed as_one owner deadline) (job ∷ jobs)
-    go true e true q (inl l) = omega (arith, ap (sum_of (weighed as_one owner deadline)) l.is, ap one_if e)
-    go true e false q (inl l) = omega (arith, ap (sum_of (weighed as_one owner deadline)) l.is)
-    go false e f q (inl l) = omega (arith, ap (sum_of (weighed as_one owner deadline)) l.is)
+        times_in owner deadline (worked outcome (job ∷ jobs)) + one_if (b && f) ≤ times_in owner deadline (job ∷ jobs)
+    go true e true q (inl l) = omega (arith, ap (times_in owner deadline) l.is, ap one_if e)
+    go true e false q (inl l) = omega (arith, ap (times_in owner deadline) l.is)
+    go false e f q (inl l) = omega (arith, ap (times_in owner deadline) l.is)
     go true e true q (inr s) = absurd (both_ways (is_finish outcome) s.unfinished q)
-    go true e false q (inr s) = omega (arith, ap (sum_of (weighed as_one owner deadline)) s.is)
-    go false e f q (inr s) = omega (arith, ap (sum_of (weighed as_one owner deadline)) s.is)
+    go true e false q (inr s) = omega (arith, ap (times_in owner deadline) s.is)
+    go false e f q (inr s) = omega (arith, ap (times_in owner deadline) s.is)
 
 -- THE ACCOUNT, along a history
 
 pub record Account (m : Setup) (s : State) (es : List Entry) (owner deadline : ℕ) : Type 0 where
   -- what is left and what it got make what was born, or it was finished
-  pub balance : (was_finished owner deadline (slots_in es) ≡ true) ⊎ (sum_of (weighed by_slots owner deadline) s.bag + slots_of owner deadline (slots_in es) ≡ born by_slots m s es owner deadline)
+  pub balance : (was_finished owner deadline (slots_in es) ≡ true) ⊎ (slots_left owner deadline s.bag + slots_of owner deadline (slots_in es) ≡ born by_slots m s es owner deadline)
   -- they never make more
-  pub most : sum_of (weighed by_slots owner deadline) s.bag + slots_of owner deadline (slots_in es) ≤ born by_slots m s es owner deadline
+  pub most : slots_left owner deadline s.bag + slots_of owner deadline (slots_in es) ≤ born by_slots m s es owner deadline
   -- a job that was finished is not in the bag any more
-  pub once : sum_of (weighed as_one owner deadline) s.bag + cond (was_finished owner deadline (slots_in es)) 1 0 ≤ born as_one m s es owner deadline
+  pub once : times_in owner deadline s.bag + one_if (was_finished owner deadline (slots_in es)) ≤ born as_one m s es owner deadline
 
 Accounts : Setup → State → List Entry → Type 0
 Accounts m s es = (owner deadline : ℕ) → 0 < deadline → Account m s es owner deadline
@@ -130,7 +138,7 @@ account_report m s es unit slot outcome on b h owner deadline z =
       balance = elim a.balance [
         | inl f ↦ inl (or_right (went_to owner deadline new && is_finish outcome) (was_finished owner deadline (slots_in es)) f)
         | inr e ↦ elim (slots_worked owner deadline z outcome s.bag b.positive) [
-          | inl f ↦ inl (or_left (went_to owner deadline new && is_finish outcome) (was_finished owner deadline (slots_in es)) (ap (λ t. t && is_finish outcome) went ∙ f))
+          | inl f ↦ inl (or_left (went_to owner deadline new && is_finish outcome) (was_finished owner deadline (slots_in es)) (ap (λ t. t && is_finish outcome) went ∙ f.0))
           | inr q ↦ inr (omega (arith, e, q, slots, ap one_if went))
         ]
       ];
@@ -163,7 +171,7 @@ account_report m s es unit slot outcome on b h owner deadline z =
     ones : born_of_polls as_one m.table.polls (upto s) owner deadline ≡ born_of_polls as_one m.table.polls (suc s.slot) owner deadline
     ones = ap (λ y. born_of_polls as_one m.table.polls y owner deadline) (upto_open s on)
 
-    either : (x y : Bool) → cond (x || y) 1 0 ≤ cond x 1 0 + cond y 1 0
+    either : (x y : Bool) → one_if (x || y) ≤ one_if x + one_if y
     either true y = omega arith
     either false y = omega arith
 

@@ -1,6 +1,6 @@
 -- Bags of jobs: sums over them, their order by deadline, and what a closed slot takes from them. Of the order of jobs only its
 -- laws are used.
-use Rattle.std.proofs.Common.{◌≡◌, ℕ, ◌+◌, ◌<◌, ◌≤◌, Bool, true, false, cond, leb, ◌⊎◌, List, [], ◌∷◌, length, sym, refl, ap, ◌∙◌, subst, inl, inr, arith}
+use Rattle.std.proofs.Common.{◌≡◌, ℕ, ◌+◌, ◌<◌, ◌≤◌, Bool, true, false, cond, leb, ◌⊎◌, List, [], ◌∷◌, if◌then◌else◌, length, sym, refl, ap, ◌∙◌, subst, inl, inr, arith}
 use Rattle.std.specs.List.{AllByRecursion}
 use Rattle.std.proofs.lemmas.Bool.{cases_Bool, cases_lt, le-leb, lt-leb}
 use Rattle.pile.proofs.Inserting.{insert_past, insert_here, insert_none}
@@ -16,7 +16,7 @@ use Rattle.machine.proofs.Each.{each_weaker}
 
 -- a test counted as a number
 abbrev pub one_if : Bool → ℕ
-one_if b = cond b 1 0
+one_if b = if b then 1 else 0
 
 pub one_if_most : (b : Bool) → one_if b ≤ 1
 one_if_most true = omega arith
@@ -151,7 +151,7 @@ sum_worked f h outcome (job ∷ jobs) = elim (work_ways outcome job jobs) [
 
 -- the slots left of the jobs that are due by x
 abbrev pub left_by : ℕ → Job → ℕ
-left_by x job = cond (leb job.deadline x) job.left 0
+left_by x job = if leb job.deadline x then job.left else 0
 
 abbrev pub work : ℕ → List Job → ℕ
 work x jobs = sum_of (left_by x) jobs

@@ -1,5 +1,5 @@
 -- The plain facts of every history: what the record says of slot, open mark and token is so, and the bag is in order.
-use Rattle.std.proofs.Common.{◌≡◌, ℕ, suc, ◌<◌, true, false, cond, List, [], ◌∷◌, take, Ok, length, None, refl, ap, ◌∙◌, length-set}
+use Rattle.std.proofs.Common.{◌≡◌, ℕ, suc, ◌<◌, true, false, cond, List, [], ◌∷◌, take, Ok, if◌then◌else◌, length, None, refl, ap, ◌∙◌, length-set}
 use Rattle.std.specs.List.{AllByRecursion}
 use Rattle.std.proofs.Math.ListN.{get_or-map}
 use Rattle.std.proofs.lemmas.List.{length-map, get_or-set_same, get_or-set_other}
@@ -43,7 +43,7 @@ recent_other m s j k budget ne = get_or-set_other s.recent k j (take most_ahead 
 
 -- the first slot whose releases have not been put yet
 abbrev pub upto : State → ℕ
-upto s = cond s.is_open (suc s.slot) s.slot
+upto s = if s.is_open then suc s.slot else s.slot
 
 pub upto_shut : (s : State) → s.is_open ≡ false → upto s ≡ s.slot
 upto_shut s e = ap (λ b. cond b (suc s.slot) s.slot) e

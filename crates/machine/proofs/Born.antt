@@ -1,6 +1,6 @@
 -- What was ever born of the job of an owner and a deadline: one release of a poll, or one accepted request. Jobs are weighed by
 -- a function of their slots left: by the slots themselves, or by 1.
-use Rattle.std.proofs.Common.{◌≡◌, ℕ, zero, suc, ◌+◌, ◌<◌, ◌≤◌, Bool, true, false, cond, ◌&&◌, eqb, ◌⊎◌, List, [], ◌∷◌, Ok, Err, length, get_or, refl, ap, ◌∙◌, subst, inl, inr, arith}
+use Rattle.std.proofs.Common.{◌≡◌, ℕ, zero, suc, ◌+◌, ◌<◌, ◌≤◌, Bool, true, false, cond, ◌&&◌, eqb, ◌⊎◌, List, [], ◌∷◌, Ok, Err, if◌then◌else◌, length, get_or, refl, ap, ◌∙◌, subst, inl, inr, arith}
 use Rattle.std.specs.List.{AllByRecursion}
 use Rattle.std.proofs.lemmas.Bool.{cases_eq, eq-eqb, ne_eqb}
 use Rattle.std.proofs.lemmas.Bool.Decides.{nat_tests}
@@ -23,7 +23,7 @@ use Rattle.machine.proofs.Releases.{no_poll, released_none, released_one}
 module _ (w : ℕ → ℕ) where
   -- the weight of a job if it is the one of this owner and deadline
   abbrev pub weighed : ℕ → ℕ → Job → ℕ
-  weighed owner deadline job = cond (eqb job.owner owner && eqb job.deadline deadline) (w job.left) 0
+  weighed owner deadline job = if eqb job.owner owner && eqb job.deadline deadline then w job.left else 0
 
   weighed_other : (owner deadline : ℕ) (job : Job) → (job.owner ≡ owner → ⊥) → weighed owner deadline job ≡ 0
   weighed_other owner deadline job ne = grind (arith, nat_tests)
@@ -44,7 +44,7 @@ module _ (w : ℕ → ℕ) where
   module _ (polls : List Poll) (i deadline : ℕ) (l : i < length polls) where
     -- what poll i releases of it at slot n
     abbrev born_at : ℕ → ℕ
-    born_at n = cond (is_released n (get_or polls i no_poll) && eqb (n + relative_deadline (get_or polls i no_poll)) deadline) (w (get_or polls i no_poll).budget) 0
+    born_at n = if is_released n (get_or polls i no_poll) && eqb (n + relative_deadline (get_or polls i no_poll)) deadline then w (get_or polls i no_poll).budget else 0
 
     released_of : (n : ℕ) → sum_of (weighed i deadline) (jobs_at n 0 polls) ≡ born_at n
     released_of n = released_one (weighed i deadline) i (weighed_other i deadline) polls 0 i n l (omega arith) ∙ go (is_released n (get_or polls i no_poll))
@@ -92,7 +92,7 @@ module _ (w : ℕ → ℕ) where
 
   -- what requests brought of it
   abbrev pub born_by : Answer → Call → ℕ → ℕ → ℕ
-  born_by (Ok (Deadline d)) (Request k budget) owner deadline = cond (eqb (lane_owner k) owner && eqb d deadline) (w budget) 0
+  born_by (Ok (Deadline d)) (Request k budget) owner deadline = if eqb (lane_owner k) owner && eqb d deadline then w budget else 0
   born_by (Ok (Deadline d)) Grant owner deadline = 0
   born_by (Ok (Deadline d)) (Report u k outcome) owner deadline = 0
   born_by (Ok (Granted u k o d)) call owner deadline = 0

@@ -5,7 +5,6 @@ use Rattle.std.proofs.lemmas.Bool.{cond_both}
 use Rattle.std.proofs.lemmas.Bool.Decides.{nat_tests}
 use Rattle.queue.specs.declared.job.Job.{Job}
 use Rattle.admission.specs.declared.table.Poll.{Poll}
-use Rattle.admission.specs.Sums.{sum_of}
 use Rattle.machine.specs.declared.call.Call.{Call}
 use Rattle.machine.specs.declared.call.Call.TheVariants.{Request, Grant, Report}
 use Rattle.machine.specs.Limits.{nobody}
@@ -20,10 +19,10 @@ use Rattle.machine.proofs.Basics.{table_of, poll_of, upto, basic}
 use Rattle.machine.proofs.NoneLate.{never_late, first_in_time}
 use Rattle.machine.proofs.LaneDeadlines.{remembered}
 use Rattle.machine.proofs.Born.{weighed, born_of_none, born_of_no_request, born_after, born_accepted, accepted_has}
-use Rattle.machine.proofs.Accounts.{by_slots, born, account}
+use Rattle.machine.proofs.Accounts.{by_slots, born, slots_left, account}
 
 -- nothing is left of a job that is due by n
-nothing_left : (owner deadline n : ℕ) (jobs : List Job) → deadline ≤ n → AllByRecursion (λ job. n < job.deadline) jobs → sum_of (weighed by_slots owner deadline) jobs ≡ 0
+nothing_left : (owner deadline n : ℕ) (jobs : List Job) → deadline ≤ n → AllByRecursion (λ job. n < job.deadline) jobs → slots_left owner deadline jobs ≡ 0
 nothing_left owner deadline n [] l h = refl
 nothing_left owner deadline n (job ∷ jobs) l h =
     let q : n < job.deadline = h.0 in

@@ -1,5 +1,5 @@
 -- A poll is a source of work: its mark is the deadline of its newest job, and releases are a period apart.
-use Rattle.std.proofs.Common.{◌≡◌, ℕ, zero, suc, ◌+◌, ◌-◌, ◌*◌, ◌/◌, ◌%◌, ◌<◌, ◌≤◌, max, Bool, true, false, cond, eqb, leb, List, [], ◌∷◌, refl, ap, ◌∙◌, subst, mul-le-mul_left, arith}
+use Rattle.std.proofs.Common.{◌≡◌, ℕ, zero, suc, ◌+◌, ◌-◌, ◌*◌, ◌/◌, ◌%◌, ◌<◌, ◌≤◌, max, Bool, true, false, cond, eqb, leb, List, [], ◌∷◌, if◌then◌else◌, refl, ap, ◌∙◌, subst, mul-le-mul_left, arith}
 use Rattle.std.proofs.Math.Nat.{div-add-mod, mul-mod_left, lt_of_mul-lt-mul_left}
 use Rattle.std.specs.List.{AllByRecursion}
 use Rattle.std.proofs.lemmas.Bool.{cond_both, leb-true, le-leb, eq-eqb, eqb-true, and_parts, and_from}
@@ -44,7 +44,7 @@ releases_apart poll m n em en l =
 -- the deadline of the newest job that was released before slot n
 abbrev pub mark : Poll → ℕ → ℕ
 mark poll zero = 0
-mark poll (suc n) = cond (is_released n poll) (n + relative_deadline poll) (mark poll n)
+mark poll (suc n) = if is_released n poll then n + relative_deadline poll else mark poll n
 
 -- that job is due by the next release
 pub mark_due : (cycle : ℕ) (poll : Poll) → PollLaws cycle poll → (m n : ℕ) → m ≤ n → is_released n poll ≡ true → mark poll m ≤ n
