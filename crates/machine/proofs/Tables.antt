@@ -15,7 +15,7 @@ use Rattle.admission.specs.Laws.{CommonMultiple}
 use Rattle.admission.proofs.Cycles.{Positive, least_from}
 use Rattle.machine.specs.Limits.{first_lane, most_ahead}
 use Rattle.machine.specs.Polls.{relative_deadline}
-use Rattle.machine.proofs.Each.{each_joined, each_front, each_back}
+use Rattle.machine.proofs.Each.{each_weaker, each_mapped, each_joined, each_front, each_back}
 
 -- a poll's job is due before the next one is released, and the poll's slots of a cycle pay for its jobs
 pub record PollLaws (cycle : ℕ) (poll : Poll) : Type 0 where
@@ -56,15 +56,6 @@ all_pass : {X : Type 0} (fits : X → Bool) (P : X → Type 0) → ((x : X) → 
 all_pass fits P f [] h = tt
 all_pass fits P f (x ∷ xs) h = let p = and_parts (fits x) (all_fit fits xs) h in (f x p.0, all_pass fits P f xs p.1)
 
--- the lengths are positive, and each divides the cycle
-poll_positive : (polls : List Poll) → AllByRecursion PollNumbers polls → Positive (map (λ poll. poll.period) polls)
-poll_positive [] h = tt
-poll_positive (poll ∷ polls) h = (h.0.some_period, poll_positive polls h.1)
-
-lane_positive : (lanes : List Lane) → AllByRecursion LaneNumbers lanes → Positive (map (λ lane. lane.span) lanes)
-lane_positive [] h = tt
-lane_positive (lane ∷ lanes) h = (h.0.some_span, lane_positive lanes h.1)
-
 poll_laws : (cycle : ℕ) (polls : List Poll) → AllByRecursion PollNumbers polls → CommonMultiple (map (λ poll. poll.period) polls) cycle → AllByRecursion (PollLaws cycle) polls
 poll_laws cycle [] n d = tt
 poll_laws cycle (poll ∷ polls) n d = (
@@ -91,7 +82,12 @@ sound table a =
     let spans = map (λ (lane : Lane). lane.span) table.lanes in
     let ps = all_pass poll_fits PollNumbers poll_numbers table.polls a.polls_fit in
     let ls = all_pass lane_fits LaneNumbers lane_numbers table.lanes a.lanes_fit in
-    let least = least_from 1 (periods ++ spans) (omega arith) (each_joined (λ n. 0 < n) periods spans (poll_positive table.polls ps) (lane_positive table.lanes ls)) in
+    -- the lengths are positive, and each divides the cycle
+    let positive : Positive (periods ++ spans) =
+    each_joined (λ n. 0 < n) periods spans
+    (each_mapped (λ n. 0 < n) (λ (poll : Poll). poll.period) table.polls (each_weaker PollNumbers (λ poll. 0 < poll.period) (λ poll n. n.some_period) table.polls ps))
+    (each_mapped (λ n. 0 < n) (λ (lane : Lane). lane.span) table.lanes (each_weaker LaneNumbers (λ lane. 0 < lane.span) (λ lane n. n.some_span) table.lanes ls)) in
+    let least = least_from 1 (periods ++ spans) (omega arith) positive in
     let common : CommonMultiple (periods ++ spans) table.cycle = subst (CommonMultiple (periods ++ spans)) (sym a.cycle_is) least.common in
     record {
       polls = poll_laws table.cycle table.polls ps (each_front (λ n. n ∣ table.cycle) periods spans common);
