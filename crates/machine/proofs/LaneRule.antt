@@ -1,6 +1,6 @@
 -- The lane's rule, and all that other proofs know of it.
 use Rattle.std.proofs.Common.{◌≡◌, ℕ, zero, suc, ◌+◌, ◌-◌, ◌*◌, ◌/◌, ◌<◌, ◌≤◌, min, max, Bool, true, false, cond, leb, refl, ap, mul-le-mul_right, mul-le-mul, mul-le-mul_left, arith}
-use native.Mathlib.Nat.{lt-mul-div-succ}
+use Rattle.std.proofs.Math.Nat.{lt-mul-div-succ}
 use Rattle.admission.specs.declared.table.Lane.{Lane}
 use Rattle.admission.specs.Demand.{lane_slots}
 use Rattle.machine.specs.Lanes.{reach, advance, due_at}
