@@ -1,21 +1,21 @@
 -- NEVER FULL: each poll has at most one job in the bag, each lane at most eight, so there is always a place.
-use Rattle.std.proofs.Common.{◌≡◌, ℕ, zero, suc, ◌+◌, ◌-◌, ◌*◌, ◌<◌, ◌≤◌, Bool, true, false, cond, not, ◌&&◌, ltb, leb, ◌⊎◌, List, [], ◌∷◌, Err, length, get_or, Some, None, refl, ap, subst, inl, inr, arith, length-take}
+use Rattle.std.proofs.Common.{◌≢◌, ◌≡◌, ℕ, zero, suc, ◌+◌, ◌-◌, ◌*◌, ◌<◌, ◌≤◌, Bool, true, false, cond, ltb, ◌⊎◌, List, [], ◌∷◌, Err, length, get_or, Some, refl, ap, inl, inr, arith, length-take}
 use Rattle.std.specs.List.{AllByRecursion}
-use Rattle.std.proofs.lemmas.Bool.{not-true, cases_eq, le-ltb, ltb-true, ltb-false, leb-false}
+use Rattle.std.proofs.lemmas.Bool.{cases_eq, le-ltb}
 use Rattle.std.proofs.lemmas.Bool.Decides.{nat_tests}
-use Rattle.std.proofs.lemmas.Option.{same_Some, none-some}
 use Rattle.queue.specs.declared.job.Job.{Job}
 use Rattle.admission.specs.declared.table.Poll.{Poll}
 use Rattle.admission.specs.Contents.{Contents}
 use Rattle.admission.specs.Sums.{sum_of}
 use Rattle.machine.specs.declared.call.Call.{Call}
+use Rattle.machine.specs.declared.call.Outcome.{Outcome}
 use Rattle.machine.specs.declared.call.Call.TheVariants.{Request, Grant, Report}
 use Rattle.machine.specs.declared.refusal.Refusal.{Refusal}
-use Rattle.machine.specs.declared.refusal.Refusal.TheVariants.{DuringSlot, NoSuchLane, BudgetOutOfRange, LaneAhead, QueueFull, SlotOpen, SlotsUsedUp, NoPlaceForRelease, Unopened, NotThisSlot}
-use Rattle.machine.specs.Limits.{most_budget, most_ahead, slots_in_all, first_lane}
+use Rattle.machine.specs.Refusals.{refusal_number}
+use Rattle.machine.specs.Limits.{most_ahead, first_lane}
 use Rattle.machine.specs.Polls.{is_released, poll_job, jobs_at}
 use Rattle.machine.specs.Lanes.{lane_owner, ahead}
-use Rattle.machine.specs.Machine.{Setup, State, places_for, recent_at, released, refusal_of, ask}
+use Rattle.machine.specs.Machine.{Setup, State, places_for, recent_at, released, refusal_of}
 use Rattle.machine.specs.History.{Entry, after, record_of, deadlines_of}
 use Rattle.machine.specs.Promises.{Opened, poll_at, HasPlace, NeverFull}
 use Rattle.machine.proofs.Bags.{one_if, one_if_most}
@@ -143,61 +143,50 @@ module _ (m : Setup) (o : Opened m) (s : State) (es : List Entry) (c : Counts m 
 
 -- THE QUESTIONS
 
--- a refusal that is told by another number is not for want of a place
-spared : (refusal which : Refusal) → HasPlace (Err refusal) → Some refusal ≡ Some which → HasPlace (Err which)
-spared refusal which p e = subst (λ r. HasPlace (Err r)) (same_Some refusal which e) p
+-- a request that is refused for want of a place has shown that the lane is there and has few deadlines ahead
+record RequestFull (m : Setup) (s : State) (j : ℕ) : Type 0 where
+  lane : j < length m.table.lanes
+  few : ahead s.slot (recent_at s j) < most_ahead
+  full : m.places ≤ length s.bag
 
--- a request is refused by another question than the last, or the lane is there and has few ahead and there is no place
-request_ways : (shut lane range few place : Bool) (which : Refusal) →
-    ask shut DuringSlot (ask lane NoSuchLane (ask range BudgetOutOfRange (ask few LaneAhead (ask place QueueFull None)))) ≡ Some which →
-    ((lane ≡ true) × (few ≡ true) × (place ≡ false)) ⊎ HasPlace (Err which)
-request_ways false lane range few place which e = inr (spared DuringSlot which (λ q. omega arith, λ q. omega arith) e)
-request_ways true false range few place which e = inr (spared NoSuchLane which (λ q. omega arith, λ q. omega arith) e)
-request_ways true true false few place which e = inr (spared BudgetOutOfRange which (λ q. omega arith, λ q. omega arith) e)
-request_ways true true true false place which e = inr (spared LaneAhead which (λ q. omega arith, λ q. omega arith) e)
-request_ways true true true true false which e = inl (refl, refl, refl)
-request_ways true true true true true which e = absurd (none-some which e)
+request_full : (m : Setup) (s : State) (j budget : ℕ) (which : Refusal) → refusal_of m s (Request j budget) ≡ Some which → refusal_number which ≡ 34 → RequestFull m s j
+request_full m s j budget which e q = record { lane = grind (arith, nat_tests); few = grind (arith, nat_tests); full = grind (arith, nat_tests) }
 
-grant_ways : (opened shut more place : Bool) (which : Refusal) → ask opened Unopened (ask shut SlotOpen (ask more SlotsUsedUp (ask place NoPlaceForRelease None))) ≡ Some which →
-    ((shut ≡ true) × (place ≡ false)) ⊎ HasPlace (Err which)
-grant_ways false shut more place which e = inr (spared Unopened which (λ q. omega arith, λ q. omega arith) e)
-grant_ways true false more place which e = inr (spared SlotOpen which (λ q. omega arith, λ q. omega arith) e)
-grant_ways true true false place which e = inr (spared SlotsUsedUp which (λ q. omega arith, λ q. omega arith) e)
-grant_ways true true true false which e = inl (refl, refl)
-grant_ways true true true true which e = absurd (none-some which e)
+request_spared : (m : Setup) (s : State) (j budget : ℕ) (which : Refusal) → refusal_of m s (Request j budget) ≡ Some which → refusal_number which ≢ 42
+request_spared m s j budget which e q = grind (arith, nat_tests)
 
-report_ways : (right : Bool) (which : Refusal) → ask right NotThisSlot None ≡ Some which → HasPlace (Err which)
-report_ways false which e = spared NotThisSlot which (λ q. omega arith, λ q. omega arith) e
-report_ways true which e = absurd (none-some which e)
+-- and a grant that no slot is open
+record GrantFull (m : Setup) (s : State) : Type 0 where
+  shut : s.is_open ≡ false
+  full : m.places < length s.bag + length (released m s)
+
+grant_full : (m : Setup) (s : State) (which : Refusal) → refusal_of m s Grant ≡ Some which → refusal_number which ≡ 42 → GrantFull m s
+grant_full m s which e q = record { shut = grind (arith, nat_tests); full = grind (arith, nat_tests) }
+
+grant_spared : (m : Setup) (s : State) (which : Refusal) → refusal_of m s Grant ≡ Some which → refusal_number which ≢ 34
+grant_spared m s which e q = grind (arith, nat_tests)
+
+report_spared : (m : Setup) (s : State) (unit slot : ℕ) (outcome : Outcome) (which : Refusal) → refusal_of m s (Report unit slot outcome) ≡ Some which → HasPlace (Err which)
+report_spared m s unit slot outcome which e = (λ q. grind (arith, nat_tests), λ q. grind (arith, nat_tests))
 
 module _ (m : Setup) (o : Opened m) (calls : List Call) where
   pub request_has_place : (j budget : ℕ) (which : Refusal) → refusal_of m (after m calls) (Request j budget) ≡ Some which → HasPlace (Err which)
-  request_has_place j budget which e =
-      let s : State = after m calls in
-      elim (request_ways (not s.is_open) (ltb j (length m.table.lanes)) (leb 1 budget && leb budget most_budget) (ltb (ahead s.slot (recent_at s j)) most_ahead) (ltb (length s.bag) m.places) which e) [
-        | inl w ↦ absurd (omega (
-          arith,
-          request_room m o s (record_of m calls) (counts m o calls) (remembered m o calls) (never_late m o calls) j (ltb-true j (length m.table.lanes) w.0) (ltb-true (ahead s.slot (recent_at s j)) most_ahead w.1),
-          ltb-false (length s.bag) m.places w.2,
-          o.roomy,
-        ))
-        | inr h ↦ h
-      ]
+  request_has_place j budget which e = (
+    (λ q.
+        let f = request_full m (after m calls) j budget which e q in
+        omega (arith, request_room m o (after m calls) (record_of m calls) (counts m o calls) (remembered m o calls) (never_late m o calls) j f.lane f.few, o.roomy)),
+    request_spared m (after m calls) j budget which e,
+  )
 
   call_has_place : (call : Call) (which : Refusal) → refusal_of m (after m calls) call ≡ Some which → HasPlace (Err which)
   call_has_place (Request j budget) which e = request_has_place j budget which e
-  call_has_place Grant which e =
-      let s : State = after m calls in
-      elim (grant_ways m.opened (not s.is_open) (ltb s.slot slots_in_all) (leb (length s.bag + length (released m s)) m.places) which e) [
-        | inl w ↦ absurd (omega (
-          arith,
-          grant_room m o s (record_of m calls) (counts m o calls) (remembered m o calls) (never_late m o calls) (not-true s.is_open w.0),
-          leb-false (length s.bag + length (released m s)) m.places w.1,
-          o.roomy,
-        ))
-        | inr h ↦ h
-      ]
-  call_has_place (Report unit slot outcome) which e = report_ways _ which e
+  call_has_place Grant which e = (
+    grant_spared m (after m calls) which e,
+    (λ q.
+        let f = grant_full m (after m calls) which e q in
+        omega (arith, grant_room m o (after m calls) (record_of m calls) (counts m o calls) (remembered m o calls) (never_late m o calls) f.shut, o.roomy)),
+  )
+  call_has_place (Report unit slot outcome) which e = report_spared m (after m calls) unit slot outcome which e
 
 pub never_full : (m : Setup) → Opened m → (calls : List Call) → NeverFull (record_of m calls)
 never_full m o = along m (λ s es. NeverFull es) tt
