@@ -1,10 +1,9 @@
 -- The account of a job: what is left of it and what it got make what was born of it, or a report finished it.
-use Rattle.std.proofs.Common.{◌≡◌, ℕ, suc, ◌+◌, ◌-◌, ◌<◌, ◌≤◌, Bool, true, false, cond, ◌&&◌, ◌||◌, eqb, ◌⊎◌, List, [], ◌∷◌, Ok, None, refl, ap, ◌∙◌, inl, inr, arith}
-use Rattle.std.proofs.lemmas.Bool.{both_ways, or_left, or_right}
+use Rattle.std.proofs.Common.{◌≡◌, ℕ, suc, ◌+◌, ◌<◌, ◌≤◌, Bool, true, false, ◌&&◌, ◌||◌, eqb, ◌⊎◌, List, [], ◌∷◌, Ok, None, refl, ap, ◌∙◌, inl, inr, arith}
+use Rattle.std.proofs.lemmas.Bool.{cases_Bool, and_from, or_left, or_right}
 use Rattle.std.proofs.lemmas.Bool.Decides.{nat_tests}
 use Rattle.pile.specs.Sorted.{first_of}
 use Rattle.queue.specs.declared.job.Job.{Job}
-use Rattle.queue.specs.Jobs.{lowered}
 use Rattle.admission.specs.Sums.{sum_of}
 use Rattle.machine.specs.declared.call.Call.{Call}
 use Rattle.machine.specs.declared.call.Call.TheVariants.{Request, Grant, Report}
@@ -14,7 +13,7 @@ use Rattle.machine.specs.Lanes.{lane_job}
 use Rattle.machine.specs.Machine.{Setup, State, refusal_of, moved, said, worked, released, new_deadline, owner_of, deadline_of}
 use Rattle.machine.specs.History.{Entry, Slot, after, record_of, last_granted, is_finish, slots_in, went_to, slots_of, was_finished}
 use Rattle.machine.specs.Promises.{Opened}
-use Rattle.machine.proofs.Bags.{one_if, one_if_most, Positive, sum_put, sum_put_all, Leaves, Stays, work_ways}
+use Rattle.machine.proofs.Bags.{one_if, one_if_most, Positive, sum_put, sum_put_all}
 use Rattle.machine.proofs.Along.{along, entry}
 use Rattle.machine.proofs.Questions.{grant_accepted, report_accepted}
 use Rattle.machine.proofs.Basics.{upto, upto_shut, upto_open, Holds, Basic, basic}
@@ -47,28 +46,31 @@ is_first owner deadline bag = eqb (owner_of (first_of bag)) owner && eqb (deadli
 not_first_of_none : (owner deadline : ℕ) → 0 < deadline → is_first owner deadline [] ≡ false
 not_first_of_none owner deadline z = grind (arith, nat_tests)
 
--- it finishes the job and takes its slot and what is left, or it takes a slot if the job is the first, and none else
+-- 'used' takes a slot from the job if it is the first, and none else
+used_slots : (owner deadline : ℕ) (job : Job) (jobs : List Job) → 1 ≤ job.left →
+    slots_left owner deadline (worked Used (job ∷ jobs)) + one_if (is_first owner deadline (job ∷ jobs)) ≡ slots_left owner deadline (job ∷ jobs)
+used_slots owner deadline job jobs some = grind (arith, nat_tests)
+
+-- 'finished' takes all that is left of the first job, and nothing of another
+finished_own : (owner deadline : ℕ) (job : Job) (jobs : List Job) → 1 ≤ job.left → is_first owner deadline (job ∷ jobs) ≡ true →
+    slots_left owner deadline (worked Finished (job ∷ jobs)) + 1 ≤ slots_left owner deadline (job ∷ jobs)
+finished_own owner deadline job jobs some first = grind (arith, nat_tests)
+
+finished_other : (owner deadline : ℕ) (job : Job) (jobs : List Job) → is_first owner deadline (job ∷ jobs) ≡ false →
+    slots_left owner deadline (worked Finished (job ∷ jobs)) + one_if (is_first owner deadline (job ∷ jobs)) ≡ slots_left owner deadline (job ∷ jobs)
+finished_other owner deadline job jobs other = grind (arith, nat_tests)
+
+-- so a report finishes the job, or takes a slot from it if it is the first, and none else
 slots_worked : (owner deadline : ℕ) → 0 < deadline → (outcome : Outcome) (bag : List Job) → Positive bag →
     (((is_first owner deadline bag && is_finish outcome) ≡ true) × (slots_left owner deadline (worked outcome bag) + 1 ≤ slots_left owner deadline bag))
     ⊎ (slots_left owner deadline (worked outcome bag) + one_if (is_first owner deadline bag) ≡ slots_left owner deadline bag)
 slots_worked owner deadline z Used [] p = inr (omega (arith, ap one_if (not_first_of_none owner deadline z)))
 slots_worked owner deadline z Finished [] p = inr (omega (arith, ap one_if (not_first_of_none owner deadline z)))
-slots_worked owner deadline z outcome (job ∷ jobs) p = go (is_first owner deadline (job ∷ jobs)) refl (work_ways outcome job jobs)
-  where
-    go : (b : Bool) → is_first owner deadline (job ∷ jobs) ≡ b → Leaves outcome job jobs ⊎ Stays outcome job jobs →
-        (((b && is_finish outcome) ≡ true) × (slots_left owner deadline (worked outcome (job ∷ jobs)) + 1 ≤ slots_left owner deadline (job ∷ jobs)))
-        ⊎ (slots_left owner deadline (worked outcome (job ∷ jobs)) + one_if b ≡ slots_left owner deadline (job ∷ jobs))
-    go true e (inl l) = elim l.why [
-      | inl finished ↦ let q = p.0 in inl (finished, omega (arith, ap (slots_left owner deadline) l.is, ap (λ b. cond b job.left 0) e))
-      | inr last ↦ let q = p.0 in inr (omega (arith, ap (slots_left owner deadline) l.is, ap (λ b. cond b job.left 0) e))
-    ]
-    go false e (inl l) = inr (omega (arith, ap (slots_left owner deadline) l.is, ap (λ b. cond b job.left 0) e))
-    go b e (inr s) = inr (stays b (ap (λ b. cond b job.left 0) e) (ap (λ b. cond b (job.left - 1) 0) e))
-      where
-        stays : (b : Bool) → weighed by_slots owner deadline job ≡ cond b job.left 0 → weighed by_slots owner deadline (lowered job) ≡ cond b (job.left - 1) 0 →
-            slots_left owner deadline (worked outcome (job ∷ jobs)) + one_if b ≡ slots_left owner deadline (job ∷ jobs)
-        stays true was is = let more = s.more in omega (arith, ap (slots_left owner deadline) s.is)
-        stays false was is = omega (arith, ap (slots_left owner deadline) s.is)
+slots_worked owner deadline z Used (job ∷ jobs) p = inr (used_slots owner deadline job jobs p.0)
+slots_worked owner deadline z Finished (job ∷ jobs) p = elim (cases_Bool (is_first owner deadline (job ∷ jobs))) [
+  | inl first ↦ inl (and_from (is_first owner deadline (job ∷ jobs)) true first refl, finished_own owner deadline job jobs p.0 first)
+  | inr other ↦ inr (finished_other owner deadline job jobs other)
+]
 
 -- it never takes more than the account holds
 slots_worked_most : (owner deadline : ℕ) → 0 < deadline → (outcome : Outcome) (bag : List Job) → Positive bag →
@@ -83,16 +85,8 @@ ones_worked : (owner deadline : ℕ) → 0 < deadline → (outcome : Outcome) (b
     times_in owner deadline (worked outcome bag) + one_if (is_first owner deadline bag && is_finish outcome) ≤ times_in owner deadline bag
 ones_worked owner deadline z Used [] = let e = not_first_of_none owner deadline z in grind (arith, nat_tests)
 ones_worked owner deadline z Finished [] = let e = not_first_of_none owner deadline z in grind (arith, nat_tests)
-ones_worked owner deadline z outcome (job ∷ jobs) = go (is_first owner deadline (job ∷ jobs)) refl (is_finish outcome) refl (work_ways outcome job jobs)
-  where
-    go : (b : Bool) → is_first owner deadline (job ∷ jobs) ≡ b → (f : Bool) → is_finish outcome ≡ f → Leaves outcome job jobs ⊎ Stays outcome job jobs →
-        times_in owner deadline (worked outcome (job ∷ jobs)) + one_if (b && f) ≤ times_in owner deadline (job ∷ jobs)
-    go true e true q (inl l) = omega (arith, ap (times_in owner deadline) l.is, ap one_if e)
-    go true e false q (inl l) = omega (arith, ap (times_in owner deadline) l.is)
-    go false e f q (inl l) = omega (arith, ap (times_in owner deadline) l.is)
-    go true e true q (inr s) = absurd (both_ways (is_finish outcome) s.unfinished q)
-    go true e false q (inr s) = omega (arith, ap (times_in owner deadline) s.is)
-    go false e f q (inr s) = omega (arith, ap (times_in owner deadline) s.is)
+ones_worked owner deadline z Used (job ∷ jobs) = grind (arith, nat_tests)
+ones_worked owner deadline z Finished (job ∷ jobs) = grind (arith, nat_tests)
 
 -- THE ACCOUNT, along a history
 
@@ -172,8 +166,7 @@ account_report m s es unit slot outcome on b h owner deadline z =
     ones = ap (λ y. born_of_polls as_one m.table.polls y owner deadline) (upto_open s on)
 
     either : (x y : Bool) → one_if (x || y) ≤ one_if x + one_if y
-    either true y = omega arith
-    either false y = omega arith
+    either x y = grind arith
 
 account_moves : (m : Setup) (s : State) (es : List Entry) (call : Call) → refusal_of m s call ≡ None → Basic m s es → Accounts m s es → Accounts m (moved m s call) (entry call (Ok (said m s call)) ∷ es)
 account_moves m s es (Request j budget) e b h = account_request m s es j budget h

@@ -19,8 +19,7 @@ abbrev pub one_if : Bool → ℕ
 one_if b = if b then 1 else 0
 
 pub one_if_most : (b : Bool) → one_if b ≤ 1
-one_if_most true = omega arith
-one_if_most false = omega arith
+one_if_most b = grind arith
 
 -- PUTTING
 

@@ -1,7 +1,6 @@
 -- DEADLINES MET: nothing of a job that is due is in the bag, so its account says that it is over.
-use Rattle.std.proofs.Common.{◌≡◌, ℕ, suc, ◌+◌, ◌*◌, ◌<◌, ◌≤◌, List, [], ◌∷◌, Ok, length, None, refl, ◌∙◌, inl, inr, arith}
+use Rattle.std.proofs.Common.{◌≡◌, ℕ, ◌+◌, ◌*◌, ◌<◌, ◌≤◌, List, [], ◌∷◌, Ok, length, None, refl, ◌∙◌, inl, inr, arith}
 use Rattle.std.specs.List.{AllByRecursion}
-use Rattle.std.proofs.lemmas.Bool.{cond_both}
 use Rattle.std.proofs.lemmas.Bool.Decides.{nat_tests}
 use Rattle.queue.specs.declared.job.Job.{Job}
 use Rattle.admission.specs.declared.table.Poll.{Poll}
@@ -39,7 +38,7 @@ due_is_over m o calls owner deadline budget z l e = elim (account m o calls owne
 ]
 
 upto_least : (s : State) → s.slot ≤ upto s
-upto_least s = cond_both s.is_open (suc s.slot) s.slot (λ x. s.slot ≤ x) (λ _. omega arith) (λ _. omega arith)
+upto_least s = grind arith
 
 poll_over : (m : Setup) → Opened m → (calls : List Call) (i k : ℕ) → i < length m.table.polls → poll_deadline (poll_at m.table i) k ≤ slots_closed (record_of m calls) →
     Over (record_of m calls) i (poll_deadline (poll_at m.table i) k) (poll_at m.table i).budget

@@ -2,7 +2,8 @@
 use Rattle.std.proofs.Common.{◌≡◌, ℕ, zero, suc, ◌+◌, ◌-◌, ◌*◌, ◌/◌, ◌%◌, ◌<◌, ◌≤◌, max, Bool, true, false, cond, eqb, leb, List, [], ◌∷◌, if◌then◌else◌, refl, ap, ◌∙◌, subst, mul-le-mul_left, arith}
 use Rattle.std.proofs.Math.Nat.{div-add-mod, mul-mod_left, lt_of_mul-lt-mul_left}
 use Rattle.std.specs.List.{AllByRecursion}
-use Rattle.std.proofs.lemmas.Bool.{cond_both, leb-true, le-leb, eq-eqb, eqb-true, and_parts, and_from}
+use Rattle.std.proofs.lemmas.Bool.{cond_both, le-leb, eq-eqb, and_from}
+use Rattle.std.proofs.lemmas.Bool.Decides.{nat_tests}
 use Rattle.admission.specs.declared.table.Poll.{Poll}
 use Rattle.admission.specs.Demand.{poll_slots}
 use Rattle.admission.specs.Sums.{sum_of}
@@ -15,9 +16,7 @@ use Rattle.machine.proofs.Marked.{marked, marked_pays}
 -- RELEASES
 
 released_parts : (poll : Poll) (n : ℕ) → is_released n poll ≡ true → (poll.phase ≤ n) × ((n - poll.phase) % poll.period ≡ 0)
-released_parts poll n e =
-    let h = and_parts (leb poll.phase n) (eqb ((n - poll.phase) % poll.period) 0) e in
-    (leb-true poll.phase n h.0, eqb-true ((n - poll.phase) % poll.period) 0 h.1)
+released_parts poll n e = (grind (arith, nat_tests), grind (arith, nat_tests))
 
 -- job k is released at phase + k × period
 pub released_at : (poll : Poll) (k : ℕ) → is_released (poll.phase + k * poll.period) poll ≡ true

@@ -45,12 +45,7 @@ solo_told lane (a ∷ asks) = option_map_or Err (solo_refusal (solo_recent lane 
 same_questions : (shut lane range few place : Bool) → lane ≡ true →
     (ask shut DuringSlot (ask lane NoSuchLane (ask range BudgetOutOfRange (ask few LaneAhead (ask place QueueFull None)))) ≡ Some QueueFull → ⊥) →
     ask shut DuringSlot (ask lane NoSuchLane (ask range BudgetOutOfRange (ask few LaneAhead (ask place QueueFull None)))) ≡ ask shut DuringSlot (ask range BudgetOutOfRange (ask few LaneAhead None))
-same_questions shut false range few place e never = cc
-same_questions false true range few place e never = refl
-same_questions true true false few place e never = refl
-same_questions true true true false place e never = refl
-same_questions true true true true false e never = absurd (never refl)
-same_questions true true true true true e never = refl
+same_questions shut lane range few place e never = grind arith
 
 module _ (m : Setup) (o : Opened m) (j : ℕ) (l : j < length m.table.lanes) where
   record Alone (s : State) (es : List Entry) : Type 0 where

@@ -1,6 +1,6 @@
 -- SHARE KEPT: what a lane was promised from s on, due by t, fits between s and the earlier of t and its clock.
-use Rattle.std.proofs.Common.{◌≡◌, ℕ, ◌+◌, ◌<◌, Bool, cond, ◌&&◌, eqb, leb, List, ◌∷◌, Ok, length, None, sym, refl, ap, ◌∙◌, subst, inl, inr, arith}
-use Rattle.std.proofs.lemmas.Bool.{cases_eq, and_parts, leb-true}
+use Rattle.std.proofs.Common.{◌≡◌, ℕ, ◌+◌, ◌<◌, ◌≤◌, Bool, true, cond, ◌&&◌, eqb, leb, List, ◌∷◌, Ok, length, None, sym, refl, ap, ◌∙◌, subst, inl, inr, arith}
+use Rattle.std.proofs.lemmas.Bool.{cases_eq}
 use Rattle.std.proofs.lemmas.Bool.Decides.{nat_tests}
 use Rattle.machine.specs.declared.call.Call.{Call}
 use Rattle.machine.specs.declared.call.Call.TheVariants.{Request, Grant, Report}
@@ -33,9 +33,11 @@ module _ (m : Setup) (o : Opened m) (j : ℕ) (jl : j < length m.table.lanes) wh
         subst (Fit (lane_at m j) (cond counts budget 0 + budgets_within j x t es) x t) (sym clock)
         (fit_more m.table.cycle (lane_at m j) (lane_of m o j jl) (budgets_within j x t es) budget x t s.slot (clock_of (recent_at s j)) (h x t) counts
         (λ e.
-        let p = and_parts (eqb k j) (leb x (slots_closed es) && leb (new_deadline m s k budget) t) e in
-        let r = and_parts (leb x (slots_closed es)) (leb (new_deadline m s k budget) t) p.1 in
-        (omega (arith, leb-true x (slots_closed es) r.0, b.slot_is), omega (arith, leb-true (new_deadline m s k budget) t r.1, ap (λ i. new_deadline m s i budget) q))))
+        let p = within x (slots_closed es) (new_deadline m s k budget) t e in
+        (omega (arith, p.0, b.slot_is), omega (arith, p.1, ap (λ i. new_deadline m s i budget) q))))
+      where
+        within : (from slot due to : ℕ) → (eqb k j && (leb from slot && leb due to)) ≡ true → (from ≤ slot) × (due ≤ to)
+        within from slot due to e = (grind (arith, nat_tests), grind (arith, nat_tests))
 
     fits_other : (k ≡ j → ⊥) → Fits (moved m s (Request k budget)) (entry (Request k budget) (Ok (Deadline (new_deadline m s k budget))) ∷ es)
     fits_other ne x t =
