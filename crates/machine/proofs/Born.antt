@@ -1,6 +1,6 @@
 -- What was ever born of the job of an owner and a deadline: one release of a poll, or one accepted request. Jobs are weighed by
 -- a function of their slots left: by the slots themselves, or by 1.
-use Rattle.std.proofs.Common.{◌≡◌, ℕ, zero, suc, ◌+◌, ◌<◌, ◌≤◌, Bool, true, false, cond, ◌&&◌, eqb, ◌⊎◌, List, [], ◌∷◌, Ok, Err, if◌then◌else◌, length, get_or, refl, ap, ◌∙◌, subst, inl, inr, arith}
+use Rattle.std.proofs.Common.{◌≡◌, ℕ, zero, suc, ◌+◌, ◌<◌, ◌≤◌, Bool, true, cond, ◌&&◌, eqb, ◌⊎◌, List, [], ◌∷◌, Ok, Err, if◌then◌else◌, length, get_or, refl, ap, ◌∙◌, subst, inl, inr, arith}
 use Rattle.std.specs.List.{AllByRecursion}
 use Rattle.std.proofs.lemmas.Bool.{cases_eq, eq-eqb, ne_eqb}
 use Rattle.std.proofs.lemmas.Bool.Decides.{nat_tests}
@@ -47,21 +47,16 @@ module _ (w : ℕ → ℕ) where
     born_at n = if is_released n (get_or polls i no_poll) && eqb (n + relative_deadline (get_or polls i no_poll)) deadline then w (get_or polls i no_poll).budget else 0
 
     released_of : (n : ℕ) → sum_of (weighed i deadline) (jobs_at n 0 polls) ≡ born_at n
-    released_of n = released_one (weighed i deadline) i (weighed_other i deadline) polls 0 i n l (omega arith) ∙ go (is_released n (get_or polls i no_poll))
+    released_of n = released_one (weighed i deadline) i (weighed_other i deadline) polls 0 i n l (omega arith) ∙ due_of (is_released n (get_or polls i no_poll))
       where
-        go : (t : Bool) → cond t (weighed i deadline (poll_job n i (get_or polls i no_poll))) 0 ≡ cond (t && eqb (n + relative_deadline (get_or polls i no_poll)) deadline) (w (get_or polls i no_poll).budget) 0
-        go true = grind (arith, nat_tests)
-        go false = refl
+        due_of : (t : Bool) → cond t (weighed i deadline (poll_job n i (get_or polls i no_poll))) 0 ≡ cond (t && eqb (n + relative_deadline (get_or polls i no_poll)) deadline) (w (get_or polls i no_poll).budget) 0
+        due_of t = grind (arith, nat_tests)
 
     not_at : (n : ℕ) → (n + relative_deadline (get_or polls i no_poll) ≡ deadline → ⊥) → born_at n ≡ 0
     not_at n ne = grind (arith, nat_tests)
 
     most_at : (n : ℕ) → born_at n ≤ w (get_or polls i no_poll).budget
-    most_at n = go (is_released n (get_or polls i no_poll) && eqb (n + relative_deadline (get_or polls i no_poll)) deadline)
-      where
-        go : (t : Bool) → cond t (w (get_or polls i no_poll).budget) 0 ≤ w (get_or polls i no_poll).budget
-        go true = omega arith
-        go false = omega arith
+    most_at n = grind arith
 
     -- nothing before its release
     pub born_before : (m : ℕ) → m + relative_deadline (get_or polls i no_poll) ≤ deadline → born_of_polls polls m i deadline ≡ 0
