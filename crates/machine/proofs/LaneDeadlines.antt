@@ -22,8 +22,8 @@ pub record Remembered (s : State) (es : List Entry) (j : ℕ) : Type 0 where
   pub positive : AllByRecursion (λ d. 0 < d) (deadlines_of j es)
 
 -- a new deadline is past the slot and past all earlier ones of its lane
-pub new_deadline_grows : (m : Setup) → Opened m → (s : State) (j budget : ℕ) → Asked m s j budget → (s.slot < new_deadline m s j budget) × (clock_of (recent_at s j) < new_deadline m s j budget)
-new_deadline_grows m o s j budget a = deadline_grows m.table.cycle (lane_at m j) (lane_of m o j a.lane) s.slot (clock_of (recent_at s j)) budget a.some
+pub new_deadline_lem : (m : Setup) → Opened m → (s : State) (j budget : ℕ) → Asked m s j budget → (s.slot < new_deadline m s j budget) × (clock_of (recent_at s j) < new_deadline m s j budget)
+new_deadline_lem m o s j budget a = deadline_grows m.table.cycle (lane_at m j) (lane_of m o j a.lane) s.slot (clock_of (recent_at s j)) budget a.some
 
 -- the newest deadline is the largest
 below_newest : (d : ℕ) (deadlines : List ℕ) → Growing deadlines → clock_of (take most_ahead deadlines) < d → AllByRecursion (λ e. e < d) deadlines
@@ -36,14 +36,14 @@ module _ (m : Setup) (o : Opened m) (s : State) (es : List Entry) (k budget : �
       let old = h j in
       let t : eqb k j ≡ true = eq-eqb k j (sym e) in
       let later : clock_of (take most_ahead (deadlines_of j es)) < new_deadline m s k budget =
-      omega (arith, (new_deadline_grows m o s k budget a).1, ap (λ i. clock_of (recent_at s i)) e, ap clock_of old.recent_is) in
+      omega (arith, (new_deadline_lem m o s k budget a).1, ap (λ i. clock_of (recent_at s i)) e, ap clock_of old.recent_is) in
       let here = recent_own m s j k budget e (omega (arith, a.lane, b.lanes)) in
       let kept : take most_ahead (new_deadline m s k budget ∷ recent_at s k) ≡ take most_ahead (new_deadline m s k budget ∷ deadlines_of j es) =
       ap (λ l. take most_ahead (new_deadline m s k budget ∷ l)) (ap (recent_at s) (sym e) ∙ old.recent_is) ∙ ap (λ l. new_deadline m s k budget ∷ l) (take-take 7 8 (deadlines_of j es) (omega arith)) in
       record {
         recent_is = rw t (here ∙ kept);
         growing = rw t (below_newest (new_deadline m s k budget) (deadlines_of j es) old.growing later, old.growing);
-        positive = rw t (omega (arith, (new_deadline_grows m o s k budget a).0), old.positive);
+        positive = rw t (omega (arith, (new_deadline_lem m o s k budget a).0), old.positive);
       }
 
   remembers_other : (j : ℕ) → (j ≡ k → ⊥) → Remembered (moved m s (Request k budget)) (entry (Request k budget) (Ok (Deadline (new_deadline m s k budget))) ∷ es) j
