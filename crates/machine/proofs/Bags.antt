@@ -1,9 +1,8 @@
 -- Bags of jobs: sums over them, their order by deadline, and what a closed slot takes from them. Of the order of jobs only its
 -- laws are used.
-use Rattle.std.proofs.Common.{◌≡◌, ℕ, ◌+◌, ◌<◌, ◌≤◌, Bool, true, false, cond, leb, ◌⊎◌, List, [], ◌∷◌, length, sym, refl, ap, ◌∙◌, subst, inl, inr, arith}
+use Rattle.std.proofs.Common.{◌≡◌, ℕ, ◌+◌, ◌<◌, ◌≤◌, Bool, true, false, cond, leb, ◌⊎◌, List, [], ◌∷◌, if◌then◌else◌, sym, refl, ap, ◌∙◌, subst, inl, inr, arith}
 use Rattle.std.specs.List.{AllByRecursion}
-use Rattle.std.proofs.ByRecursion.{All-weaker}
-use Rattle.std.proofs.lemmas.Bool.{cases_lt, le-leb, lt-leb}
+use Rattle.std.proofs.lemmas.Bool.{cases_Bool, cases_lt, le-leb, lt-leb}
 use Rattle.pile.proofs.Inserting.{insert_past, insert_here, insert_none}
 use Rattle.queue.specs.declared.job.Job.{Job}
 use Rattle.queue.specs.Jobs.{sooner, put_job, lowered}
@@ -13,28 +12,31 @@ use Rattle.machine.specs.declared.call.Outcome.{Outcome}
 use Rattle.machine.specs.declared.call.Outcome.TheVariants.{Used, Finished}
 use Rattle.machine.specs.Machine.{put_all, worked}
 use Rattle.machine.specs.History.{is_finish}
+use Rattle.machine.proofs.Each.{each_weaker}
+
+-- a test counted as a number
+abbrev pub one_if : Bool → ℕ
+one_if b = if b then 1 else 0
+
+pub one_if_most : (b : Bool) → one_if b ≤ 1
+one_if_most b = grind arith
 
 -- PUTTING
 
 -- where a job is put: in front of the list, or behind its head
 put_ways : (job first : Job) (jobs : List Job) →
     ((sooner first job ≡ true) × (put_job job (first ∷ jobs) ≡ first ∷ put_job job jobs)) ⊎ ((sooner first job ≡ false) × (put_job job (first ∷ jobs) ≡ job ∷ first ∷ jobs))
-put_ways job first jobs = go (sooner first job) refl
-  where
-    go : (b : Bool) → sooner first job ≡ b →
-        ((sooner first job ≡ true) × (put_job job (first ∷ jobs) ≡ first ∷ put_job job jobs)) ⊎ ((sooner first job ≡ false) × (put_job job (first ∷ jobs) ≡ job ∷ first ∷ jobs))
-    go true e = inl (e, insert_past sooner job first jobs e)
-    go false e = inr (e, insert_here sooner job first jobs e)
+put_ways job first jobs = elim (cases_Bool (sooner first job)) [
+  | inl e ↦ inl (e, insert_past sooner job first jobs e)
+  | inr e ↦ inr (e, insert_here sooner job first jobs e)
+]
 
 pub sum_put : (f : Job → ℕ) (job : Job) (jobs : List Job) → sum_of f (put_job job jobs) ≡ f job + sum_of f jobs
 sum_put f job [] = ap (sum_of f) (insert_none sooner job)
-sum_put f job (first ∷ jobs) = go (sum_put f job jobs) (put_ways job first jobs)
-  where
-    go : sum_of f (put_job job jobs) ≡ f job + sum_of f jobs →
-        ((sooner first job ≡ true) × (put_job job (first ∷ jobs) ≡ first ∷ put_job job jobs)) ⊎ ((sooner first job ≡ false) × (put_job job (first ∷ jobs) ≡ job ∷ first ∷ jobs)) →
-        sum_of f (put_job job (first ∷ jobs)) ≡ f job + sum_of f (first ∷ jobs)
-    go h (inl w) = ap (sum_of f) w.1 ∙ omega (arith, h)
-    go h (inr w) = ap (sum_of f) w.1
+sum_put f job (first ∷ jobs) = elim (put_ways job first jobs) [
+  | inl w ↦ omega (arith, ap (sum_of f) w.1, sum_put f job jobs)
+  | inr w ↦ ap (sum_of f) w.1
+]
 
 pub all_put : (P : Job → Type 0) (job : Job) (jobs : List Job) → P job → AllByRecursion P jobs → AllByRecursion P (put_job job jobs)
 all_put P job [] p h = subst (AllByRecursion P) (sym (insert_none sooner job)) (p, tt)
@@ -53,20 +55,14 @@ unfolding put_all
 all_put_all P [] bag d e = e
 all_put_all P (job ∷ jobs) bag d e = all_put P job (put_all jobs bag) d.0 (all_put_all P jobs bag d.1 e)
 
--- a bag's length is a sum
-pub length_is_sum : (jobs : List Job) → length jobs ≡ sum_of (λ (job : Job). 1) jobs
-length_is_sum [] = refl
-length_is_sum (job ∷ jobs) = omega (arith, length_is_sum jobs)
-
 -- THE ORDER BY DEADLINE
 
 -- what does not run sooner is due no sooner
 not_sooner_due : (x y : Job) → sooner x y ≡ false → y.deadline ≤ x.deadline
-not_sooner_due x y h = go (sooner y x) refl
-  where
-    go : (b : Bool) → sooner y x ≡ b → y.deadline ≤ x.deadline
-    go true e = sooner_due y x e
-    go false e = omega (arith, ap (λ (job : Job). job.deadline) (sooner_total.same x y h e))
+not_sooner_due x y h = elim (cases_Bool (sooner y x)) [
+  | inl e ↦ sooner_due y x e
+  | inr e ↦ omega (arith, ap (λ (job : Job). job.deadline) (sooner_total.same x y h e))
+]
 
 -- no job is due before one in front of it
 abbrev pub Rising : List Job → Type 0
@@ -80,7 +76,7 @@ rising_put job (first ∷ jobs) r = elim (put_ways job first jobs) [
       subst Rising (sym w.1) (all_put (λ later. first.deadline ≤ later.deadline) job jobs (sooner_due first job w.0) r.0, rising_put job jobs r.1)
   | inr w ↦
       let h = not_sooner_due first job w.0 in
-      subst Rising (sym w.1) ((h, All-weaker (λ later. first.deadline ≤ later.deadline) (λ later. job.deadline ≤ later.deadline) (λ later l. omega arith) jobs r.0), r)
+      subst Rising (sym w.1) ((h, each_weaker (λ later. first.deadline ≤ later.deadline) (λ later. job.deadline ≤ later.deadline) (λ later l. omega arith) jobs r.0), r)
 ]
 
 pub rising_put_all : (jobs bag : List Job) → Rising bag → Rising (put_all jobs bag)
@@ -149,7 +145,7 @@ sum_worked f h outcome (job ∷ jobs) = elim (work_ways outcome job jobs) [
 
 -- the slots left of the jobs that are due by x
 abbrev pub left_by : ℕ → Job → ℕ
-left_by x job = cond (leb job.deadline x) job.left 0
+left_by x job = if leb job.deadline x then job.left else 0
 
 abbrev pub work : ℕ → List Job → ℕ
 work x jobs = sum_of (left_by x) jobs
@@ -178,7 +174,7 @@ worked_serves x outcome (job ∷ jobs) p r = go (cases_lt x job.deadline) (work_
     go : (x < job.deadline) ⊎ (job.deadline ≤ x) → Leaves outcome job jobs ⊎ Stays outcome job jobs →
         (work x (worked outcome (job ∷ jobs)) + 1 ≤ work x (job ∷ jobs)) ⊎ (work x (worked outcome (job ∷ jobs)) ≡ 0)
     go (inl h) w =
-        let later : AllByRecursion (λ other. x < other.deadline) jobs = All-weaker (λ other. job.deadline ≤ other.deadline) (λ other. x < other.deadline) (λ other l. omega arith) jobs r.0 in
+        let later : AllByRecursion (λ other. x < other.deadline) jobs = each_weaker (λ other. job.deadline ≤ other.deadline) (λ other. x < other.deadline) (λ other l. omega arith) jobs r.0 in
         inr (elim w [ inl l ↦ ap (work x) l.is ∙ no_work x jobs later | inr s ↦ ap (work x) s.is ∙ no_work x (lowered job ∷ jobs) (h, later) ])
     go (inr h) (inl l) = let q = p.0 in inl (omega (arith, ap (work x) l.is, left_due x job h))
     go (inr h) (inr s) = let m = s.more in inl (omega (arith, ap (work x) s.is, left_due x job h, left_due x (lowered job) h))

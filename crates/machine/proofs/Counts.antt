@@ -1,8 +1,6 @@
 -- How many jobs of each owner can stand in the bag: of a poll one, of a lane as many as it has deadlines ahead.
-use Rattle.std.proofs.Common.{◌≡◌, ℕ, zero, suc, ◌+◌, ◌<◌, ◌≤◌, Bool, true, false, cond, ◌&&◌, eqb, ltb, ◌⊎◌, List, [], ◌∷◌, length, get_or, take, set, None, sym, refl, ap, ◌∙◌, subst, inl, inr, arith}
+use Rattle.std.proofs.Common.{◌≡◌, ℕ, zero, suc, ◌+◌, ◌<◌, ◌≤◌, Bool, true, false, cond, ◌&&◌, eqb, ltb, ◌⊎◌, List, [], ◌∷◌, length, take, None, sym, refl, ap, ◌∙◌, subst, inl, inr, arith}
 use Rattle.std.specs.List.{AllByRecursion}
-use Rattle.std.proofs.ByRecursion.{All-weaker}
-use Rattle.std.proofs.lemmas.List.{get_or-set_same, get_or-set_other}
 use Rattle.std.proofs.lemmas.Bool.{cond_both, cases_eq, cases_lt, lt-ltb, le-ltb}
 use Rattle.std.proofs.lemmas.Bool.Decides.{nat_tests}
 use Rattle.queue.specs.declared.job.Job.{Job}
@@ -18,16 +16,14 @@ use Rattle.machine.specs.Lanes.{lane_owner, lane_job, ahead}
 use Rattle.machine.specs.Machine.{Setup, State, refusal_of, moved, recent_at, released, new_deadline}
 use Rattle.machine.specs.History.{Entry, after, record_of, deadlines_of}
 use Rattle.machine.specs.Promises.{Opened, Growing, poll_at}
-use Rattle.machine.proofs.Bags.{sum_put, sum_put_all, sum_worked, all_put, all_put_all, all_worked}
+use Rattle.machine.proofs.Each.{each_weaker, each_taken}
+use Rattle.machine.proofs.Bags.{one_if, one_if_most, sum_put, sum_put_all, sum_worked, all_put, all_put_all, all_worked}
 use Rattle.machine.proofs.PollSource.{mark, mark_due}
 use Rattle.machine.proofs.Along.{along}
 use Rattle.machine.proofs.Questions.{Asked, request_accepted, grant_accepted, report_accepted}
-use Rattle.machine.proofs.Basics.{table_of, poll_of, upto, upto_shut, upto_open, Basic, basic}
+use Rattle.machine.proofs.Basics.{table_of, poll_of, recent_own, recent_other, upto, upto_shut, upto_open, Basic, basic}
 use Rattle.machine.proofs.LaneDeadlines.{Remembered, remembered}
 use Rattle.machine.proofs.Releases.{released_none, released_one}
-
-abbrev pub one_if : Bool → ℕ
-one_if b = cond b 1 0
 
 -- one if the job is the owner's and due after x
 abbrev pub is_ahead : ℕ → ℕ → Job → ℕ
@@ -49,13 +45,9 @@ ahead_less : (n x : ℕ) (deadlines : List ℕ) → n ≤ x → ahead x deadline
 ahead_less n x [] l = omega arith
 ahead_less n x (d ∷ ds) l = let r = ahead_less n x ds l in grind (arith, nat_tests)
 
-one_most : (b : Bool) → one_if b ≤ 1
-one_most true = omega arith
-one_most false = omega arith
-
 pub ahead_most : (x : ℕ) (deadlines : List ℕ) → ahead x deadlines ≤ length deadlines
 ahead_most x [] = omega arith
-ahead_most x (d ∷ ds) = omega (arith, one_most (ltb x d), ahead_most x ds)
+ahead_most x (d ∷ ds) = omega (arith, one_if_most (ltb x d), ahead_most x ds)
 
 -- the first k of growing deadlines hold all that are ahead, if these are at most k
 ahead_taken : (x k : ℕ) (deadlines : List ℕ) → Growing deadlines → ahead x deadlines ≤ k → ahead x (take k deadlines) ≡ ahead x deadlines
@@ -63,18 +55,13 @@ ahead_taken x zero deadlines g l = omega arith
 ahead_taken x (suc k) [] g l = refl
 ahead_taken x (suc k) (d ∷ ds) g l = ap (λ y. one_if (ltb x d) + y) (ahead_taken x k ds g.1 (elim (cases_lt x d) [
   | inl h ↦ omega (arith, ap one_if (lt-ltb x d h))
-  | inr h ↦ omega (arith, ahead_none x ds (All-weaker (λ e. e < d) (λ e. e ≤ x) (λ e q. omega arith) ds g.0))
+  | inr h ↦ omega (arith, ahead_none x ds (each_weaker (λ e. e < d) (λ e. e ≤ x) (λ e q. omega arith) ds g.0))
 ]))
 
 growing_taken : (k : ℕ) (deadlines : List ℕ) → Growing deadlines → Growing (take k deadlines)
 growing_taken zero deadlines g = tt
 growing_taken (suc k) [] g = tt
-growing_taken (suc k) (d ∷ ds) g = (all_taken k ds g.0, growing_taken k ds g.1)
-  where
-    all_taken : (k : ℕ) (ds : List ℕ) → AllByRecursion (λ e. e < d) ds → AllByRecursion (λ e. e < d) (take k ds)
-    all_taken zero ds h = tt
-    all_taken (suc k) [] h = tt
-    all_taken (suc k) (e ∷ es) h = (h.0, all_taken k es h.1)
+growing_taken (suc k) (d ∷ ds) g = (each_taken (λ e. e < d) k ds g.0, growing_taken k ds g.1)
 
 -- OWNERS
 
@@ -101,8 +88,7 @@ module _ (m : Setup) (o : Opened m) (s : State) (es : List Entry) (c : Counts m 
   counts_request k budget a b r = record {
     lanes = λ j x l. elim (cases_eq j k) [
       | inl q ↦
-          let here : recent_at (moved m s (Request k budget)) j ≡ take most_ahead (new_deadline m s k budget ∷ recent_at s k) =
-          ap (λ i. get_or (set s.recent k (take most_ahead (new_deadline m s k budget ∷ recent_at s k))) i []) q ∙ get_or-set_same s.recent k _ [] (omega (arith, a.lane, b.lanes)) in
+          let here = recent_own m s j k budget q (omega (arith, a.lane, b.lanes)) in
           let growing : Growing (recent_at s k) = subst Growing (sym r.recent_is) (growing_taken most_ahead (deadlines_of k es) r.growing) in
           let kept : ahead x (take 7 (recent_at s k)) ≡ ahead x (recent_at s k) = ahead_taken x 7 (recent_at s k) growing (omega (arith, ahead_less s.slot x (recent_at s k) l, a.few)) in
           omega (
@@ -115,7 +101,7 @@ module _ (m : Setup) (o : Opened m) (s : State) (es : List Entry) (c : Counts m 
             ap (λ i. ahead x (recent_at s i)) q,
           )
       | inr ne ↦
-          let there : recent_at (moved m s (Request k budget)) j ≡ recent_at s j = get_or-set_other s.recent k j (take most_ahead (new_deadline m s k budget ∷ recent_at s k)) [] ne in
+          let there = recent_other m s j k budget ne in
           omega (arith, sum_put (is_ahead (lane_owner j) x) (job k budget) s.bag, ahead_other (lane_owner j) x (job k budget) (λ e. ne (omega arith)), c.lanes j x l, ap (ahead x) there)
     ];
     polls = λ i x l h. omega (arith, sum_put (is_ahead i x) (job k budget) s.bag, ahead_other i x (job k budget) (λ e. omega (arith, l, (table_of m o).few_polls)), c.polls i x l h);
@@ -139,7 +125,7 @@ module _ (m : Setup) (o : Opened m) (s : State) (es : List Entry) (c : Counts m 
         (omega (arith, c.polls i x l h, ap (λ y. one_if (ltb x (mark (poll_at m.table i) y))) (upto_shut s shut)))
         (sum_put_all (is_ahead i x) (released m s) s.bag ∙ ap (λ y. y + sum_of (is_ahead i x) s.bag) (released_one (is_ahead i x) i (ahead_other i x) m.table.polls 0 i s.slot l (omega arith)));
     owned = all_put_all (Owned m.table) (released m s) s.bag
-        (All-weaker (λ job. job.owner < length m.table.polls) (Owned m.table) (λ job h. inl h) (released m s) (released_owned m.table.polls 0 s.slot (length m.table.polls) (omega arith)))
+        (each_weaker (λ job. job.owner < length m.table.polls) (Owned m.table) (λ job h. inl h) (released m s) (released_owned m.table.polls 0 s.slot (length m.table.polls) (omega arith)))
         c.owned;
   }
     where

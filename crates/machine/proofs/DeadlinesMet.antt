@@ -1,30 +1,27 @@
 -- DEADLINES MET: nothing of a job that is due is in the bag, so its account says that it is over.
-use Rattle.std.proofs.Common.{◌≡◌, ℕ, suc, ◌+◌, ◌*◌, ◌<◌, ◌≤◌, List, [], ◌∷◌, length, None, refl, ◌∙◌, inl, inr, arith}
+use Rattle.std.proofs.Common.{◌≡◌, ℕ, ◌+◌, ◌*◌, ◌<◌, ◌≤◌, List, [], ◌∷◌, Ok, length, None, refl, ◌∙◌, inl, inr, arith}
 use Rattle.std.specs.List.{AllByRecursion}
-use Rattle.std.proofs.lemmas.Bool.{cond_both}
 use Rattle.std.proofs.lemmas.Bool.Decides.{nat_tests}
-use Rattle.pile.specs.Sorted.{first_of}
 use Rattle.queue.specs.declared.job.Job.{Job}
 use Rattle.admission.specs.declared.table.Poll.{Poll}
-use Rattle.admission.specs.Sums.{sum_of}
 use Rattle.machine.specs.declared.call.Call.{Call}
 use Rattle.machine.specs.declared.call.Call.TheVariants.{Request, Grant, Report}
 use Rattle.machine.specs.Limits.{nobody}
 use Rattle.machine.specs.Lanes.{lane_owner}
-use Rattle.machine.specs.Machine.{Setup, State, refusal_of, said, owner_of, deadline_of}
+use Rattle.machine.specs.Machine.{Setup, State, refusal_of, said}
 use Rattle.machine.specs.History.{Slot, after, record_of, slots_closed, slots_in, Accepted}
 use Rattle.machine.specs.Promises.{Opened, poll_at, poll_deadline, Over, DeadlinesMet}
 use Rattle.machine.proofs.PollSource.{released_at}
 use Rattle.machine.proofs.Along.{along, entry}
 use Rattle.machine.proofs.Questions.{report_accepted}
 use Rattle.machine.proofs.Basics.{table_of, poll_of, upto, basic}
-use Rattle.machine.proofs.NoneLate.{never_late}
+use Rattle.machine.proofs.NoneLate.{never_late, first_in_time}
 use Rattle.machine.proofs.LaneDeadlines.{remembered}
 use Rattle.machine.proofs.Born.{weighed, born_of_none, born_of_no_request, born_after, born_accepted, accepted_has}
-use Rattle.machine.proofs.Accounts.{by_slots, born, account}
+use Rattle.machine.proofs.Accounts.{by_slots, born, slots_left, account}
 
 -- nothing is left of a job that is due by n
-nothing_left : (owner deadline n : ℕ) (jobs : List Job) → deadline ≤ n → AllByRecursion (λ job. n < job.deadline) jobs → sum_of (weighed by_slots owner deadline) jobs ≡ 0
+nothing_left : (owner deadline n : ℕ) (jobs : List Job) → deadline ≤ n → AllByRecursion (λ job. n < job.deadline) jobs → slots_left owner deadline jobs ≡ 0
 nothing_left owner deadline n [] l h = refl
 nothing_left owner deadline n (job ∷ jobs) l h =
     let q : n < job.deadline = h.0 in
@@ -41,7 +38,7 @@ due_is_over m o calls owner deadline budget z l e = elim (account m o calls owne
 ]
 
 upto_least : (s : State) → s.slot ≤ upto s
-upto_least s = cond_both s.is_open (suc s.slot) s.slot (λ x. s.slot ≤ x) (λ _. omega arith) (λ _. omega arith)
+upto_least s = grind arith
 
 poll_over : (m : Setup) → Opened m → (calls : List Call) (i k : ℕ) → i < length m.table.polls → poll_deadline (poll_at m.table i) k ≤ slots_closed (record_of m calls) →
     Over (record_of m calls) i (poll_deadline (poll_at m.table i) k) (poll_at m.table i).budget
@@ -71,19 +68,15 @@ request_over m o calls j budget deadline a l =
 abbrev InTime : List Slot → Type 0
 InTime slots = AllByRecursion (λ slot. (slot.owner ≡ nobody → ⊥) → slot.number < slot.deadline) slots
 
-first_later : (n : ℕ) (jobs : List Job) → AllByRecursion (λ job. n < job.deadline) jobs → (owner_of (first_of jobs) ≡ nobody → ⊥) → n < deadline_of (first_of jobs)
-first_later n [] h ne = absurd (ne refl)
-first_later n (job ∷ jobs) h ne = h.0
-
 in_time : (m : Setup) → Opened m → (calls : List Call) → InTime (slots_in (record_of m calls))
 in_time m o = along m (λ s es. InTime (slots_in es)) tt (λ calls call refusal _ h. h) moves
   where
-    moves : (calls : List Call) (call : Call) → refusal_of m (after m calls) call ≡ None → InTime (slots_in (record_of m calls)) → InTime (slots_in (entry call (said m (after m calls) call) ∷ record_of m calls))
+    moves : (calls : List Call) (call : Call) → refusal_of m (after m calls) call ≡ None → InTime (slots_in (record_of m calls)) → InTime (slots_in (entry call (Ok (said m (after m calls) call)) ∷ record_of m calls))
     moves calls (Request j budget) e h = h
     moves calls Grant e h = h
     moves calls (Report unit slot outcome) e h =
         let held = (basic m o calls).held (report_accepted m (after m calls) unit slot outcome e) in (
-          (λ ne. omega (arith, held.number, held.deadline, first_later (after m calls).slot (after m calls).bag (never_late m o calls) (λ q. ne (held.owner ∙ q)))),
+          (λ ne. omega (arith, held.number, held.deadline, first_in_time m o calls (λ q. ne (held.owner ∙ q)))),
           h,
         )
 

@@ -1,6 +1,6 @@
 -- EACH PAIR ONE JOB: releases of a poll are a period apart, a lane's deadlines only grow, and owner numbers do not meet.
-use Rattle.std.proofs.Common.{◌≡◌, ℕ, ◌*◌, ◌≤◌, List, inl, inr, mul-le-mul_right, arith}
-use Rattle.std.proofs.lemmas.Bool.{cases_order}
+use Rattle.std.proofs.Common.{List, arith}
+use Rattle.std.proofs.Math.Nat.{eq_of_mul-eq-mul_right}
 use Rattle.machine.specs.declared.call.Call.{Call}
 use Rattle.machine.specs.Machine.{Setup}
 use Rattle.machine.specs.History.{record_of}
@@ -8,19 +8,11 @@ use Rattle.machine.specs.Promises.{Opened, poll_at, EachPairOneJob}
 use Rattle.machine.proofs.Basics.{table_of, poll_of}
 use Rattle.machine.proofs.LaneDeadlines.{remembered}
 
--- multiples of a period differ where their factors do
-factors_same : (T k k' : ℕ) → 1 ≤ T → k * T ≡ k' * T → k ≡ k'
-factors_same T k k' some e = elim (cases_order k k') [
-  | inl q ↦ q
-  | inr (inl l) ↦ absurd (omega (arith, mul-le-mul_right T l))
-  | inr (inr l) ↦ absurd (omega (arith, mul-le-mul_right T l))
-]
-
 pub each_pair_one_job : (m : Setup) → Opened m → (calls : List Call) → EachPairOneJob m.table (record_of m calls)
 each_pair_one_job m o calls = record {
   polls = λ i k k' l e.
       let laws = poll_of m o i l in
-      factors_same (poll_at m.table i).period k k' laws.some_period (omega arith);
+      eq_of_mul-eq-mul_right (poll_at m.table i).period laws.some_period k k' (omega arith);
   requests = λ j. (remembered m o calls j).growing;
   owners = λ i j li lj.
       let few = (table_of m o).few_polls in

@@ -1,5 +1,6 @@
 -- EARLIEST DEADLINE FIRST, over any sources of work. This file knows no poll, no lane, no machine and no rule about ties.
-use Rattle.std.proofs.Common.{◌≡◌, ℕ, zero, suc, ◌+◌, ◌-◌, ◌*◌, ◌<◌, ◌≤◌, ◌⊎◌, List, [], ◌∷◌, ◌++◌, length, get_or, set, refl, ap, inl, inr, mul-le-mul_right, mul-le-mul_left, arith}
+use Rattle.std.proofs.Common.{◌≡◌, ℕ, zero, suc, ◌+◌, ◌-◌, ◌*◌, ◌<◌, ◌≤◌, ◌⊎◌, List, [], ◌∷◌, ◌++◌, length, get_or, set, ap, inl, inr, mul-le-mul_right, mul-le-mul_left, arith}
+use Rattle.std.proofs.Math.Nat.{lt_of_mul-lt-mul_left}
 use Rattle.std.specs.List.{AllByRecursion}
 use Rattle.queue.specs.declared.job.Job.{Job}
 use Rattle.admission.specs.Sums.{sum_of}
@@ -57,24 +58,23 @@ room_served cycle n bag bag' sources h serves r x l = elim (serves x) [
 
 -- THE THEOREM: at x = n the invariant leaves less than one slot of work, so no job in the bag is late
 pub none_late : (cycle n : ℕ) (bag : List Job) (sources : List Source) → 1 ≤ cycle → Positive bag → Room cycle n bag sources → AllByRecursion (λ job. n < job.deadline) bag
-none_late cycle n bag sources one p r = all_later n bag p (none (work n bag) (omega (arith, r n (omega arith), ap (λ y. cycle * y) q)))
-  where
-    q : n - n ≡ 0
-    q = omega arith
-
-    none : (w : ℕ) → cycle * w ≤ cycle - 1 → w ≡ 0
-    none zero h = refl
-    none (suc w) h = absurd (omega arith)
+none_late cycle n bag sources one p r =
+    let now : n - n ≡ 0 = omega arith in
+    let less : cycle * work n bag < cycle * 1 = omega (arith, r n (omega arith), ap (λ y. cycle * y) now) in
+    let none = lt_of_mul-lt-mul_left cycle less in
+    all_later n bag p (omega arith)
 
 -- FAMILIES of sources
 
+sum_append : (f : Source → ℕ) (xs ys : List Source) → sum_of f (xs ++ ys) ≡ sum_of f xs + sum_of f ys
+sum_append f [] ys = omega arith
+sum_append f (x ∷ xs) ys = omega (arith, sum_append f xs ys)
+
 pub rates_append : (xs ys : List Source) → rates (xs ++ ys) ≡ rates xs + rates ys
-rates_append [] ys = omega arith
-rates_append (x ∷ xs) ys = omega (arith, rates_append xs ys)
+rates_append = sum_append (λ source. source.rate)
 
 pub potentials_append : (xs ys : List Source) (n x : ℕ) → potentials (xs ++ ys) n x ≡ potentials xs n x + potentials ys n x
-potentials_append [] ys n x = omega arith
-potentials_append (y ∷ xs) ys n x = omega (arith, potentials_append xs ys n x)
+potentials_append xs ys n x = sum_append (λ source. source.potential n x) xs ys
 
 -- one source for each of a list, by what is fixed of it and by its state
 abbrev pub sources_of : {X Y : Type 0} → (X → Y → Source) → List X → List Y → List Source

@@ -1,6 +1,7 @@
 -- Calls with the oldest first: the same history, told the other way round.
 use Rattle.std.proofs.Common.{◌≡◌, List, [], ◌∷◌, reverse, sym, refl, ap, ◌∙◌}
-use mathlib.Core.List.{reverse_aux, reverse-reverse}
+use mathlib.Core.List.{reverse_aux}
+use Rattle.std.proofs.lemmas.List.{reverse-reverse}
 use Rattle.machine.specs.declared.call.Call.{Call}
 use Rattle.machine.specs.Machine.{Setup, fresh}
 use Rattle.machine.specs.History.{after, record_of, answers_from, state_from, told_in}

@@ -1,6 +1,6 @@
 -- The lane's rule, and all that other proofs know of it.
 use Rattle.std.proofs.Common.{◌≡◌, ℕ, zero, suc, ◌+◌, ◌-◌, ◌*◌, ◌/◌, ◌<◌, ◌≤◌, min, max, Bool, true, false, cond, leb, refl, ap, mul-le-mul_right, mul-le-mul, mul-le-mul_left, arith}
-use native.Mathlib.Nat.{lt-mul-div-succ}
+use Rattle.std.proofs.Math.Nat.{lt-mul-div-succ}
 use Rattle.admission.specs.declared.table.Lane.{Lane}
 use Rattle.admission.specs.Demand.{lane_slots}
 use Rattle.machine.specs.Lanes.{reach, advance, due_at}
@@ -12,20 +12,16 @@ use Rattle.machine.proofs.Marked.{marked, marked_pays}
 reach_pays : (lane : Lane) (budget : ℕ) → 1 ≤ lane.quota → budget * lane.span ≤ lane.quota * reach lane budget
 reach_pays lane budget some = omega (arith, lt-mul-div-succ (budget * lane.span + (lane.quota - 1)) {b = lane.quota} some)
 
--- a clock that was never advanced shows 0
-pub due_at_first : (lane : Lane) → due_at lane 0 ≡ 0
-due_at_first lane = refl
-
 -- a new deadline is past the slot, and past the last one
 pub deadline_grows : (cycle : ℕ) (lane : Lane) → LaneFits cycle lane → (slot clock budget : ℕ) → 1 ≤ budget →
     (slot < due_at lane (advance lane slot clock budget)) × (due_at lane clock < due_at lane (advance lane slot clock budget))
 deadline_grows cycle lane fits slot clock budget some =
-    let r = go (reach lane budget) (reach_pays lane budget fits.some_quota) (mul-le-mul some fits.some_span) in
-    (omega (arith, r), omega (arith, r))
+    let some_reach : 1 ≤ reach lane budget = some_factor (reach lane budget) (reach_pays lane budget fits.some_quota) (mul-le-mul some fits.some_span) in
+    (omega arith, omega arith)
   where
-    go : (x : ℕ) → budget * lane.span ≤ lane.quota * x → 1 * 1 ≤ budget * lane.span → 1 ≤ x
-    go zero h k = omega arith
-    go (suc x) h k = omega arith
+    some_factor : (x : ℕ) → budget * lane.span ≤ lane.quota * x → 1 * 1 ≤ budget * lane.span → 1 ≤ x
+    some_factor zero h k = omega arith
+    some_factor (suc x) h k = omega arith
 
 -- AS A SOURCE
 

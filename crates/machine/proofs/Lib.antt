@@ -1,3 +1,4 @@
+pub mod Each
 pub mod Tables
 pub mod Bags
 pub mod Earliest

@@ -1,32 +1,31 @@
 -- NEVER FULL: each poll has at most one job in the bag, each lane at most eight, so there is always a place.
-use Rattle.std.proofs.Common.{◌≡◌, ℕ, zero, suc, ◌+◌, ◌-◌, ◌*◌, ◌<◌, ◌≤◌, Bool, true, false, cond, not, ◌&&◌, ltb, leb, ◌⊎◌, List, [], ◌∷◌, length, get_or, Some, None, refl, ap, ◌∙◌, inl, inr, arith, length-take}
+use Rattle.std.proofs.Common.{◌≢◌, ◌≡◌, ℕ, zero, suc, ◌+◌, ◌-◌, ◌*◌, ◌<◌, ◌≤◌, Bool, true, false, cond, ltb, ◌⊎◌, List, [], ◌∷◌, Err, length, get_or, Some, refl, ap, inl, inr, arith, length-take}
 use Rattle.std.specs.List.{AllByRecursion}
-use Rattle.std.proofs.lemmas.Bool.{cases_eq, le-ltb, ltb-true, ltb-false, leb-false}
+use Rattle.std.proofs.lemmas.Bool.{cases_eq, le-ltb}
 use Rattle.std.proofs.lemmas.Bool.Decides.{nat_tests}
 use Rattle.queue.specs.declared.job.Job.{Job}
 use Rattle.admission.specs.declared.table.Poll.{Poll}
 use Rattle.admission.specs.Contents.{Contents}
 use Rattle.admission.specs.Sums.{sum_of}
 use Rattle.machine.specs.declared.call.Call.{Call}
+use Rattle.machine.specs.declared.call.Outcome.{Outcome}
 use Rattle.machine.specs.declared.call.Call.TheVariants.{Request, Grant, Report}
-use Rattle.machine.specs.declared.call.Answer.TheVariants.{Refused}
 use Rattle.machine.specs.declared.refusal.Refusal.{Refusal}
-use Rattle.machine.specs.declared.refusal.Refusal.TheVariants.{DuringSlot, NoSuchLane, BudgetOutOfRange, LaneAhead, QueueFull, SlotOpen, SlotsUsedUp, NoPlaceForRelease, Unopened, NotThisSlot}
 use Rattle.machine.specs.Refusals.{refusal_number}
-use Rattle.machine.specs.Limits.{most_budget, most_ahead, slots_in_all, first_lane}
+use Rattle.machine.specs.Limits.{most_ahead, first_lane}
 use Rattle.machine.specs.Polls.{is_released, poll_job, jobs_at}
 use Rattle.machine.specs.Lanes.{lane_owner, ahead}
-use Rattle.machine.specs.Machine.{Setup, State, places_for, recent_at, released, refusal_of, said, ask}
+use Rattle.machine.specs.Machine.{Setup, State, places_for, recent_at, released, refusal_of}
 use Rattle.machine.specs.History.{Entry, after, record_of, deadlines_of}
 use Rattle.machine.specs.Promises.{Opened, poll_at, HasPlace, NeverFull}
+use Rattle.machine.proofs.Bags.{one_if, one_if_most}
 use Rattle.machine.proofs.PollSource.{mark, mark_due}
 use Rattle.machine.proofs.Along.{along}
-use Rattle.std.proofs.lemmas.Bool.{not-true}
 use Rattle.machine.proofs.Basics.{poll_of, upto, upto_shut}
 use Rattle.machine.proofs.NoneLate.{never_late}
 use Rattle.machine.proofs.LaneDeadlines.{Remembered, remembered}
 use Rattle.machine.proofs.Releases.{no_poll}
-use Rattle.machine.proofs.Counts.{one_if, is_ahead, ahead_most, Owned, Counts, counts}
+use Rattle.machine.proofs.Counts.{is_ahead, ahead_most, Owned, Counts, counts}
 
 -- SUMS OVER OWNERS
 
@@ -107,12 +106,8 @@ module _ (m : Setup) (o : Opened m) (s : State) (es : List Entry) (c : Counts m 
         length-take most_ahead (deadlines_of (owner - first_lane) es),
       )
 
-  one_most : (b : Bool) → one_if b ≤ 1
-  one_most true = omega arith
-  one_most false = omega arith
-
   poll_most : (i : ℕ) → i < length m.table.polls → sum_of (is_ahead i s.slot) s.bag ≤ 1
-  poll_most i l = omega (arith, c.polls i s.slot l (omega arith), one_most (ltb s.slot (mark (poll_at m.table i) (upto s))))
+  poll_most i l = omega (arith, c.polls i s.slot l (omega arith), one_if_most (ltb s.slot (mark (poll_at m.table i) (upto s))))
 
   request_room : (j : ℕ) → j < length m.table.lanes → ahead s.slot (recent_at s j) < most_ahead → length s.bag < places_for m.table
   request_room j l few =
@@ -148,77 +143,52 @@ module _ (m : Setup) (o : Opened m) (s : State) (es : List Entry) (c : Counts m 
 
 -- THE QUESTIONS
 
-some_inj : (x y : Refusal) → Some x ≡ Some y → x ≡ y
-some_inj x y e = cc
+-- a request that is refused for want of a place has shown that the lane is there and has few deadlines ahead
+record RequestFull (m : Setup) (s : State) (j : ℕ) : Type 0 where
+  lane : j < length m.table.lanes
+  few : ahead s.slot (recent_at s j) < most_ahead
+  full : m.places ≤ length s.bag
 
-never : (which : Refusal) → None ≡ Some which → ⊥
-never which e = let z : ◌≡◌ {A = ℕ} 0 1 = cc in omega arith
+request_full : (m : Setup) (s : State) (j budget : ℕ) (which : Refusal) → refusal_of m s (Request j budget) ≡ Some which → refusal_number which ≡ 34 → RequestFull m s j
+request_full m s j budget which e q = record { lane = grind (arith, nat_tests); few = grind (arith, nat_tests); full = grind (arith, nat_tests) }
 
--- a refusal whose number is another one
-other : (refusal which : Refusal) (n : ℕ) → Some refusal ≡ Some which → (refusal_number refusal ≡ n → ⊥) → refusal_number which ≡ n → ⊥
-other refusal which n e ne q = ne (ap refusal_number (some_inj refusal which e) ∙ q)
+request_spared : (m : Setup) (s : State) (j budget : ℕ) (which : Refusal) → refusal_of m s (Request j budget) ≡ Some which → refusal_number which ≢ 42
+request_spared m s j budget which e q = grind (arith, nat_tests)
 
-spared : (refusal which : Refusal) → Some refusal ≡ Some which → (refusal_number refusal ≡ 34 → ⊥) → (refusal_number refusal ≡ 42 → ⊥) → HasPlace (Refused which)
-spared refusal which e a b = (other refusal which 34 e a, other refusal which 42 e b)
+-- and a grant that no slot is open
+record GrantFull (m : Setup) (s : State) : Type 0 where
+  shut : s.is_open ≡ false
+  full : m.places < length s.bag + length (released m s)
 
--- a request is refused by another question than the last, or the lane is there and has few ahead and there is no place
-request_ways : (shut lane range few place : Bool) (which : Refusal) →
-    ask shut DuringSlot (ask lane NoSuchLane (ask range BudgetOutOfRange (ask few LaneAhead (ask place QueueFull None)))) ≡ Some which →
-    ((lane ≡ true) × (few ≡ true) × (place ≡ false)) ⊎ HasPlace (Refused which)
-request_ways false lane range few place which e = inr (spared DuringSlot which e (λ q. omega arith) (λ q. omega arith))
-request_ways true false range few place which e = inr (spared NoSuchLane which e (λ q. omega arith) (λ q. omega arith))
-request_ways true true false few place which e = inr (spared BudgetOutOfRange which e (λ q. omega arith) (λ q. omega arith))
-request_ways true true true false place which e = inr (spared LaneAhead which e (λ q. omega arith) (λ q. omega arith))
-request_ways true true true true false which e = inl (refl, refl, refl)
-request_ways true true true true true which e = absurd (never which e)
+grant_full : (m : Setup) (s : State) (which : Refusal) → refusal_of m s Grant ≡ Some which → refusal_number which ≡ 42 → GrantFull m s
+grant_full m s which e q = record { shut = grind (arith, nat_tests); full = grind (arith, nat_tests) }
 
-grant_ways : (opened shut more place : Bool) (which : Refusal) → ask opened Unopened (ask shut SlotOpen (ask more SlotsUsedUp (ask place NoPlaceForRelease None))) ≡ Some which →
-    ((shut ≡ true) × (place ≡ false)) ⊎ HasPlace (Refused which)
-grant_ways false shut more place which e = inr (spared Unopened which e (λ q. omega arith) (λ q. omega arith))
-grant_ways true false more place which e = inr (spared SlotOpen which e (λ q. omega arith) (λ q. omega arith))
-grant_ways true true false place which e = inr (spared SlotsUsedUp which e (λ q. omega arith) (λ q. omega arith))
-grant_ways true true true false which e = inl (refl, refl)
-grant_ways true true true true which e = absurd (never which e)
+grant_spared : (m : Setup) (s : State) (which : Refusal) → refusal_of m s Grant ≡ Some which → refusal_number which ≢ 34
+grant_spared m s which e q = grind (arith, nat_tests)
 
-report_ways : (right : Bool) (which : Refusal) → ask right NotThisSlot None ≡ Some which → HasPlace (Refused which)
-report_ways false which e = spared NotThisSlot which e (λ q. omega arith) (λ q. omega arith)
-report_ways true which e = absurd (never which e)
+report_spared : (m : Setup) (s : State) (unit slot : ℕ) (outcome : Outcome) (which : Refusal) → refusal_of m s (Report unit slot outcome) ≡ Some which → HasPlace (Err which)
+report_spared m s unit slot outcome which e = (λ q. grind (arith, nat_tests), λ q. grind (arith, nat_tests))
 
 module _ (m : Setup) (o : Opened m) (calls : List Call) where
-  pub request_has_place : (j budget : ℕ) (which : Refusal) → refusal_of m (after m calls) (Request j budget) ≡ Some which → HasPlace (Refused which)
-  request_has_place j budget which e =
-      let s : State = after m calls in
-      elim (request_ways (not s.is_open) (ltb j (length m.table.lanes)) (leb 1 budget && leb budget most_budget) (ltb (ahead s.slot (recent_at s j)) most_ahead) (ltb (length s.bag) m.places) which e) [
-        | inl w ↦ absurd (omega (
-          arith,
-          request_room m o s (record_of m calls) (counts m o calls) (remembered m o calls) (never_late m o calls) j (ltb-true j (length m.table.lanes) w.0) (ltb-true (ahead s.slot (recent_at s j)) most_ahead w.1),
-          ltb-false (length s.bag) m.places w.2,
-          o.roomy,
-        ))
-        | inr h ↦ h
-      ]
+  pub request_has_place : (j budget : ℕ) (which : Refusal) → refusal_of m (after m calls) (Request j budget) ≡ Some which → HasPlace (Err which)
+  request_has_place j budget which e = (
+    (λ q.
+        let f = request_full m (after m calls) j budget which e q in
+        omega (arith, request_room m o (after m calls) (record_of m calls) (counts m o calls) (remembered m o calls) (never_late m o calls) j f.lane f.few, o.roomy)),
+    request_spared m (after m calls) j budget which e,
+  )
 
-  call_has_place : (call : Call) (which : Refusal) → refusal_of m (after m calls) call ≡ Some which → HasPlace (Refused which)
+  call_has_place : (call : Call) (which : Refusal) → refusal_of m (after m calls) call ≡ Some which → HasPlace (Err which)
   call_has_place (Request j budget) which e = request_has_place j budget which e
-  call_has_place Grant which e =
-      let s : State = after m calls in
-      elim (grant_ways m.opened (not s.is_open) (ltb s.slot slots_in_all) (leb (length s.bag + length (released m s)) m.places) which e) [
-        | inl w ↦ absurd (omega (
-          arith,
-          grant_room m o s (record_of m calls) (counts m o calls) (remembered m o calls) (never_late m o calls) (not-true s.is_open w.0),
-          leb-false (length s.bag + length (released m s)) m.places w.1,
-          o.roomy,
-        ))
-        | inr h ↦ h
-      ]
-  call_has_place (Report unit slot outcome) which e = report_ways _ which e
-
-accepted_has_place : (m : Setup) (s : State) (call : Call) → HasPlace (said m s call)
-accepted_has_place m s (Request j budget) = tt
-accepted_has_place m s Grant = tt
-accepted_has_place m s (Report unit slot outcome) = tt
+  call_has_place Grant which e = (
+    grant_spared m (after m calls) which e,
+    (λ q.
+        let f = grant_full m (after m calls) which e q in
+        omega (arith, grant_room m o (after m calls) (record_of m calls) (counts m o calls) (remembered m o calls) (never_late m o calls) f.shut, o.roomy)),
+  )
+  call_has_place (Report unit slot outcome) which e = report_spared m (after m calls) unit slot outcome which e
 
 pub never_full : (m : Setup) → Opened m → (calls : List Call) → NeverFull (record_of m calls)
 never_full m o = along m (λ s es. NeverFull es) tt
     (λ calls call refusal e h. (call_has_place m o calls call refusal e, h))
-    (λ calls call e h. (accepted_has_place m (after m calls) call, h))
+    (λ calls call e h. (tt, h))

@@ -1,16 +1,17 @@
 -- The machine is a run of the sources: its polls and lanes pay for every job, so no job in the bag is ever late.
-use Rattle.std.proofs.Common.{◌≡◌, ℕ, zero, suc, ◌*◌, ◌<◌, ◌≤◌, true, false, List, [], ◌∷◌, ◌++◌, map, get_or, take, set, None, sym, refl, ap, subst, arith}
-use lib.Seq.{map-set}
+use Rattle.std.proofs.Common.{◌≡◌, ◌≢◌, ℕ, suc, ◌*◌, ◌<◌, ◌≤◌, true, false, List, [], ◌∷◌, ◌++◌, map, take, set, None, sym, refl, ap, subst, arith}
+use Rattle.std.proofs.Math.ListN.{get_or-map}
 use Rattle.std.specs.List.{AllByRecursion}
-use Rattle.std.proofs.lemmas.List.{length-map}
+use Rattle.std.proofs.lemmas.List.{length-map, map-set}
+use Rattle.pile.specs.Sorted.{first_of}
 use Rattle.queue.specs.declared.job.Job.{Job}
 use Rattle.admission.specs.Demand.{lane_slots}
 use Rattle.machine.specs.declared.call.Call.{Call}
 use Rattle.machine.specs.declared.call.Call.TheVariants.{Request, Grant, Report}
 use Rattle.machine.specs.declared.call.Outcome.{Outcome}
-use Rattle.machine.specs.Limits.{most_ahead}
+use Rattle.machine.specs.Limits.{most_ahead, nobody}
 use Rattle.machine.specs.Lanes.{clock_of, lane_job}
-use Rattle.machine.specs.Machine.{Setup, State, fresh, refusal_of, moved, lane_at, recent_at, released, new_clock, new_deadline}
+use Rattle.machine.specs.Machine.{Setup, State, fresh, refusal_of, moved, lane_at, recent_at, released, new_clock, new_deadline, owner_of, deadline_of}
 use Rattle.machine.specs.History.{Entry, after, record_of}
 use Rattle.machine.specs.Promises.{Opened}
 use Rattle.machine.proofs.Bags.{left_by, sum_put, sum_put_all, worked_serves}
@@ -60,16 +61,11 @@ room_request m o s es j budget a b r =
       potentials_append polls after' s.slot x,
       potentials_set (lane_source cycle) (record { span = 0; quota = 0 }) 0 (new_clock m s j budget) s.slot x m.table.lanes (clocks s) j a.lane
           (omega (arith, a.lane, b.lanes, length-map s.recent clock_of)),
-      ap (λ y. (lane_source cycle (lane_at m j) y).potential s.slot x) (clock_at s.recent j),
+      ap (λ y. (lane_source cycle (lane_at m j) y).potential s.slot x) (get_or-map clock_of s.recent j []),
       lane_pays cycle (lane_at m j) (lane_of m o j a.lane) (clock_of (recent_at s j)) budget s.slot x,
     )) in
     subst (λ cs. Room cycle s.slot (moved m s (Request j budget)).bag (polls ++ sources_of (lane_source cycle) m.table.lanes cs))
     (sym (map-set clock_of s.recent j (take most_ahead (new_deadline m s j budget ∷ recent_at s j)))) (paid r)
-  where
-    clock_at : (all : List (List ℕ)) (i : ℕ) → get_or (map clock_of all) i 0 ≡ clock_of (get_or all i [])
-    clock_at [] i = refl
-    clock_at (recent ∷ all) zero = refl
-    clock_at (recent ∷ all) (suc i) = clock_at all i
 
 -- the jobs that a grant releases are paid by their polls
 room_grant : (m : Setup) → Opened m → (s : State) → s.is_open ≡ false → Roomy m s → Roomy m (moved m s Grant)
@@ -111,3 +107,11 @@ room m o = along m (λ s es. Roomy m s)
 pub never_late : (m : Setup) → Opened m → (calls : List Call) → AllByRecursion (λ job. (after m calls).slot < job.deadline) (after m calls).bag
 never_late m o calls =
     none_late m.table.cycle (after m calls).slot (after m calls).bag (sources m (after m calls)) (table_of m o).some_cycle (basic m o calls).positive (room m o calls)
+
+-- so the present slot, where it goes to a job, lies below that job's deadline
+pub first_in_time : (m : Setup) → Opened m → (calls : List Call) → (owner_of (first_of (after m calls).bag) ≢ nobody) → (after m calls).slot < deadline_of (first_of (after m calls).bag)
+first_in_time m o calls ne = first (after m calls).bag (never_late m o calls) ne
+  where
+    first : (jobs : List Job) → AllByRecursion (λ job. (after m calls).slot < job.deadline) jobs → (owner_of (first_of jobs) ≢ nobody) → (after m calls).slot < deadline_of (first_of jobs)
+    first [] h none = absurd (none refl)
+    first (job ∷ jobs) h none = h.0

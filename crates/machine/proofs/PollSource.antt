@@ -1,8 +1,9 @@
 -- A poll is a source of work: its mark is the deadline of its newest job, and releases are a period apart.
-use Rattle.std.proofs.Common.{◌≡◌, ℕ, zero, suc, ◌+◌, ◌-◌, ◌*◌, ◌/◌, ◌%◌, ◌<◌, ◌≤◌, max, Bool, true, false, cond, eqb, leb, List, [], ◌∷◌, refl, ap, ◌∙◌, subst, inl, inr, mul-le-mul_left, arith}
-use native.Mathlib.Nat.{div-add-mod, mul-mod_left}
+use Rattle.std.proofs.Common.{◌≡◌, ℕ, zero, suc, ◌+◌, ◌-◌, ◌*◌, ◌/◌, ◌%◌, ◌<◌, ◌≤◌, max, Bool, true, false, cond, eqb, leb, List, [], ◌∷◌, if◌then◌else◌, refl, ap, ◌∙◌, subst, mul-le-mul_left, arith}
+use Rattle.std.proofs.Math.Nat.{div-add-mod, mul-mod_left, lt_of_mul-lt-mul_left}
 use Rattle.std.specs.List.{AllByRecursion}
-use Rattle.std.proofs.lemmas.Bool.{cond_both, leb-true, le-leb, eq-eqb, eqb-true, cases_lt, and_parts, and_from}
+use Rattle.std.proofs.lemmas.Bool.{cond_both, le-leb, eq-eqb, and_from}
+use Rattle.std.proofs.lemmas.Bool.Decides.{nat_tests}
 use Rattle.admission.specs.declared.table.Poll.{Poll}
 use Rattle.admission.specs.Demand.{poll_slots}
 use Rattle.admission.specs.Sums.{sum_of}
@@ -15,9 +16,7 @@ use Rattle.machine.proofs.Marked.{marked, marked_pays}
 -- RELEASES
 
 released_parts : (poll : Poll) (n : ℕ) → is_released n poll ≡ true → (poll.phase ≤ n) × ((n - poll.phase) % poll.period ≡ 0)
-released_parts poll n e =
-    let h = and_parts (leb poll.phase n) (eqb ((n - poll.phase) % poll.period) 0) e in
-    (leb-true poll.phase n h.0, eqb-true ((n - poll.phase) % poll.period) 0 h.1)
+released_parts poll n e = (grind (arith, nat_tests), grind (arith, nat_tests))
 
 -- job k is released at phase + k × period
 pub released_at : (poll : Poll) (k : ℕ) → is_released (poll.phase + k * poll.period) poll ≡ true
@@ -28,9 +27,6 @@ released_at poll k =
     (le-leb poll.phase n (omega arith))
     (eq-eqb ((n - poll.phase) % poll.period) 0 (ap (λ x. x % poll.period) e ∙ mul-mod_left k poll.period))
 
-multiples_apart : (T a b : ℕ) → T * a < T * b → T * a + T ≤ T * b
-multiples_apart T a b h = elim (cases_lt a b) [ inl l ↦ omega (arith, mul-le-mul_left T l) | inr l ↦ omega (arith, mul-le-mul_left T l) ]
-
 -- two releases are a period apart
 pub releases_apart : (poll : Poll) (m n : ℕ) → is_released m poll ≡ true → is_released n poll ≡ true → m < n → m + poll.period ≤ n
 releases_apart poll m n em en l =
@@ -40,14 +36,14 @@ releases_apart poll m n em en l =
     let dm = div-add-mod (m - poll.phase) T in
     let dn = div-add-mod (n - poll.phase) T in
     let k : T * ((m - poll.phase) / T) < T * ((n - poll.phase) / T) = omega arith in
-    omega (arith, multiples_apart T ((m - poll.phase) / T) ((n - poll.phase) / T) k)
+    omega (arith, mul-le-mul_left T (lt_of_mul-lt-mul_left T k))
 
 -- THE MARK
 
 -- the deadline of the newest job that was released before slot n
 abbrev pub mark : Poll → ℕ → ℕ
 mark poll zero = 0
-mark poll (suc n) = cond (is_released n poll) (n + relative_deadline poll) (mark poll n)
+mark poll (suc n) = if is_released n poll then n + relative_deadline poll else mark poll n
 
 -- that job is due by the next release
 pub mark_due : (cycle : ℕ) (poll : Poll) → PollLaws cycle poll → (m n : ℕ) → m ≤ n → is_released n poll ≡ true → mark poll m ≤ n

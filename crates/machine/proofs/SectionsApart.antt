@@ -1,23 +1,22 @@
 -- SECTIONS APART: a lane's answers can be worked out from its own requests alone.
-use Rattle.std.proofs.Common.{◌≡◌, ℕ, zero, suc, ◌<◌, Bool, true, false, not, ◌&&◌, eqb, ltb, leb, List, [], ◌∷◌, map, length, get_or, take, set, Some, None, Option, sym, refl, ap, ◌∙◌, subst, inl, inr, arith}
-use Rattle.std.proofs.lemmas.List.{get_or-set_same, get_or-set_other}
+use Rattle.std.proofs.Common.{◌≡◌, ℕ, ◌<◌, Bool, true, false, not, ◌&&◌, eqb, ltb, leb, List, [], ◌∷◌, length, get_or, take, Some, None, Option, Ok, Err, is_some, if◌then◌else◌, sym, refl, ap, ◌∙◌, subst, inl, inr, arith}
+use Rattle.std.specs.Option.{option_map_or}
 use Rattle.std.proofs.lemmas.Bool.{cases_eq, eq-eqb, ne_eqb, lt-ltb}
 use Rattle.admission.specs.declared.table.Lane.{Lane}
 use Rattle.admission.specs.Contents.{Contents}
 use Rattle.machine.specs.declared.call.Call.{Call}
 use Rattle.machine.specs.declared.call.Call.TheVariants.{Request, Grant, Report}
-use Rattle.machine.specs.declared.call.Answer.{Answer}
-use Rattle.machine.specs.declared.call.Answer.TheVariants.{Deadline, Refused}
+use Rattle.machine.specs.declared.call.Reply.TheVariants.{Deadline}
 use Rattle.machine.specs.declared.refusal.Refusal.{Refusal}
 use Rattle.machine.specs.declared.refusal.Refusal.TheVariants.{DuringSlot, NoSuchLane, BudgetOutOfRange, LaneAhead, QueueFull}
 use Rattle.machine.specs.Limits.{most_budget, most_ahead}
 use Rattle.machine.specs.Lanes.{clock_of, advance, due_at, ahead}
-use Rattle.machine.specs.Machine.{Setup, State, ask, lane_at, recent_at, refusal_of, moved, said, new_deadline, by_refusal}
+use Rattle.machine.specs.Machine.{Setup, State, Answer, ask, lane_at, recent_at, refusal_of, moved, said, new_deadline}
 use Rattle.machine.specs.History.{Entry, Ask, after, record_of, asked_of, told_back, slots_closed, slot_is_open}
 use Rattle.machine.specs.Promises.{Opened, SectionsApart}
 use Rattle.machine.proofs.Along.{along, entry}
 use Rattle.machine.proofs.Questions.{request_accepted}
-use Rattle.machine.proofs.Basics.{basic}
+use Rattle.machine.proofs.Basics.{recent_at_first, recent_own, recent_other, basic}
 use Rattle.machine.proofs.NeverFull.{request_has_place}
 
 -- THE LANE ALONE: what it remembers and answers, from what was asked of it
@@ -35,22 +34,18 @@ solo_deadline lane recent a = due_at lane (advance lane a.slot (clock_of recent)
 abbrev solo_recent : Lane → List Ask → List ℕ
 solo_recent lane [] = []
 solo_recent lane (a ∷ asks) =
-    by_refusal (solo_refusal (solo_recent lane asks) a) (λ _. solo_recent lane asks) (take most_ahead (solo_deadline lane (solo_recent lane asks) a ∷ solo_recent lane asks))
+    if is_some (solo_refusal (solo_recent lane asks) a) then solo_recent lane asks
+    else take most_ahead (solo_deadline lane (solo_recent lane asks) a ∷ solo_recent lane asks)
 
 abbrev solo_told : Lane → List Ask → List Answer
 solo_told lane [] = []
-solo_told lane (a ∷ asks) = by_refusal (solo_refusal (solo_recent lane asks) a) Refused (Deadline (solo_deadline lane (solo_recent lane asks) a)) ∷ solo_told lane asks
+solo_told lane (a ∷ asks) = option_map_or Err (solo_refusal (solo_recent lane asks) a) (Ok (Deadline (solo_deadline lane (solo_recent lane asks) a))) ∷ solo_told lane asks
 
 -- the machine refuses a request as the lane alone does, since it is never refused for want of a place
 same_questions : (shut lane range few place : Bool) → lane ≡ true →
     (ask shut DuringSlot (ask lane NoSuchLane (ask range BudgetOutOfRange (ask few LaneAhead (ask place QueueFull None)))) ≡ Some QueueFull → ⊥) →
     ask shut DuringSlot (ask lane NoSuchLane (ask range BudgetOutOfRange (ask few LaneAhead (ask place QueueFull None)))) ≡ ask shut DuringSlot (ask range BudgetOutOfRange (ask few LaneAhead None))
-same_questions shut false range few place e never = absurd (let z : ◌≡◌ {A = ℕ} 0 1 = cc in omega arith)
-same_questions false true range few place e never = refl
-same_questions true true false few place e never = refl
-same_questions true true true false place e never = refl
-same_questions true true true true false e never = absurd (never refl)
-same_questions true true true true true e never = refl
+same_questions shut lane range few place e never = grind arith
 
 module _ (m : Setup) (o : Opened m) (j : ℕ) (l : j < length m.table.lanes) where
   record Alone (s : State) (es : List Entry) : Type 0 where
@@ -81,7 +76,7 @@ module _ (m : Setup) (o : Opened m) (j : ℕ) (l : j < length m.table.lanes) whe
         ap (λ i. new_deadline m (after m calls) i budget) q
         ∙ (λ i. due_at (lane_at m j) (advance (lane_at m j) (sym (basic m o calls).slot_is i) (clock_of (h.recent i)) budget))
 
-    alone_refused : (refusal : Refusal) → refusal_of m (after m calls) (Request k budget) ≡ Some refusal → Alone (after m calls) (entry (Request k budget) (Refused refusal) ∷ record_of m calls)
+    alone_refused : (refusal : Refusal) → refusal_of m (after m calls) (Request k budget) ≡ Some refusal → Alone (after m calls) (entry (Request k budget) (Err refusal) ∷ record_of m calls)
     unfolding asking mine
     alone_refused refusal e = elim (cases_eq k j) [
       | inr q ↦ let t : eqb k j ≡ false = ne_eqb k j q in record { recent = rw t h.recent; told = rw t h.told }
@@ -89,48 +84,41 @@ module _ (m : Setup) (o : Opened m) (j : ℕ) (l : j < length m.table.lanes) whe
           let t : eqb k j ≡ true = eq-eqb k j q in
           let r : solo_refusal mine (asking calls budget) ≡ Some refusal = same_refusal q ∙ e in
           record {
-            recent = rw t (h.recent ∙ sym (ap (λ x. by_refusal x (λ _. mine) (take most_ahead (solo_deadline (lane_at m j) mine (asking calls budget) ∷ mine))) r));
-            told = rw t (λ i. by_refusal (sym r i) Refused (Deadline (solo_deadline (lane_at m j) mine (asking calls budget))) ∷ h.told i);
+            recent = rw t (h.recent ∙ sym (ap (λ x. if is_some x then mine else take most_ahead (solo_deadline (lane_at m j) mine (asking calls budget) ∷ mine)) r));
+            told = rw t (λ i. option_map_or Err (sym r i) (Ok (Deadline (solo_deadline (lane_at m j) mine (asking calls budget)))) ∷ h.told i);
           }
     ]
 
-    alone_accepted : refusal_of m (after m calls) (Request k budget) ≡ None → Alone (moved m (after m calls) (Request k budget)) (entry (Request k budget) (Deadline (new_deadline m (after m calls) k budget)) ∷ record_of m calls)
+    alone_accepted : refusal_of m (after m calls) (Request k budget) ≡ None → Alone (moved m (after m calls) (Request k budget)) (entry (Request k budget) (Ok (Deadline (new_deadline m (after m calls) k budget))) ∷ record_of m calls)
     unfolding asking mine
     alone_accepted e = elim (cases_eq k j) [
       | inr q ↦
           let t : eqb k j ≡ false = ne_eqb k j q in
           record {
-            recent = rw t (get_or-set_other (after m calls).recent k j _ [] (λ y. q (sym y)) ∙ h.recent);
+            recent = rw t (recent_other m (after m calls) j k budget (λ y. q (sym y)) ∙ h.recent);
             told = rw t h.told;
           }
       | inl q ↦
           let t : eqb k j ≡ true = eq-eqb k j q in
           let r : solo_refusal mine (asking calls budget) ≡ None = same_refusal q ∙ e in
           let a = request_accepted m (after m calls) k budget e in
-          let here : recent_at (moved m (after m calls) (Request k budget)) j ≡ take most_ahead (new_deadline m (after m calls) k budget ∷ recent_at (after m calls) k) =
-          ap (λ i. get_or (set (after m calls).recent k (take most_ahead (new_deadline m (after m calls) k budget ∷ recent_at (after m calls) k))) i []) (sym q)
-          ∙ get_or-set_same (after m calls).recent k _ [] (omega (arith, a.lane, (basic m o calls).lanes)) in
+          let here = recent_own m (after m calls) j k budget (sym q) (omega (arith, a.lane, (basic m o calls).lanes)) in
           let was : recent_at (after m calls) k ≡ mine = ap (recent_at (after m calls)) q ∙ h.recent in
           record {
-            recent = rw t (here ∙ (λ i. take most_ahead (same_deadline q i ∷ was i)) ∙ sym (ap (λ x. by_refusal x (λ _. mine) (take most_ahead (solo_deadline (lane_at m j) mine (asking calls budget) ∷ mine))) r));
-            told = rw t ((λ i. Deadline (same_deadline q i) ∷ h.told i) ∙ (λ i. by_refusal (sym r i) Refused (Deadline (solo_deadline (lane_at m j) mine (asking calls budget))) ∷ solo_told (lane_at m j) (asked_of j (record_of m calls))));
+            recent = rw t (here ∙ (λ i. take most_ahead (same_deadline q i ∷ was i)) ∙ sym (ap (λ x. if is_some x then mine else take most_ahead (solo_deadline (lane_at m j) mine (asking calls budget) ∷ mine)) r));
+            told = rw t ((λ i. Ok (Deadline (same_deadline q i)) ∷ h.told i) ∙ (λ i. option_map_or Err (sym r i) (Ok (Deadline (solo_deadline (lane_at m j) mine (asking calls budget)))) ∷ solo_told (lane_at m j) (asked_of j (record_of m calls))));
           }
     ]
 
-  nothing_at : (lanes : List Lane) (i : ℕ) → get_or {A = List ℕ} (map (λ (one : Lane). []) lanes) i [] ≡ []
-  nothing_at [] i = refl
-  nothing_at (one ∷ lanes) zero = refl
-  nothing_at (one ∷ lanes) (suc i) = nothing_at lanes i
-
   alone : (calls : List Call) → Alone (after m calls) (record_of m calls)
-  alone = along m Alone (record { recent = nothing_at m.table.lanes j; told = refl }) refused accepted
+  alone = along m Alone (record { recent = recent_at_first m j; told = refl }) refused accepted
     where
-      refused : (calls : List Call) (call : Call) (refusal : Refusal) → refusal_of m (after m calls) call ≡ Some refusal → Alone (after m calls) (record_of m calls) → Alone (after m calls) (entry call (Refused refusal) ∷ record_of m calls)
+      refused : (calls : List Call) (call : Call) (refusal : Refusal) → refusal_of m (after m calls) call ≡ Some refusal → Alone (after m calls) (record_of m calls) → Alone (after m calls) (entry call (Err refusal) ∷ record_of m calls)
       refused calls (Request k budget) refusal e h = alone_refused calls k budget h refusal e
       refused calls Grant refusal e h = record { recent = h.recent; told = h.told }
       refused calls (Report unit slot outcome) refusal e h = record { recent = h.recent; told = h.told }
 
-      accepted : (calls : List Call) (call : Call) → refusal_of m (after m calls) call ≡ None → Alone (after m calls) (record_of m calls) → Alone (moved m (after m calls) call) (entry call (said m (after m calls) call) ∷ record_of m calls)
+      accepted : (calls : List Call) (call : Call) → refusal_of m (after m calls) call ≡ None → Alone (after m calls) (record_of m calls) → Alone (moved m (after m calls) call) (entry call (Ok (said m (after m calls) call)) ∷ record_of m calls)
       accepted calls (Request k budget) e h = alone_accepted calls k budget h e
       accepted calls Grant e h = record { recent = h.recent; told = h.told }
       accepted calls (Report unit slot outcome) e h = record { recent = h.recent; told = h.told }

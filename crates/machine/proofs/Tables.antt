@@ -1,10 +1,10 @@
 -- What an admissible table says of its polls and lanes: the only ground of all promises.
 use Rattle.std.proofs.Common.{◌≡◌, ℕ, ◌+◌, ◌*◌, ◌/◌, ◌<◌, ◌≤◌, Bool, true, List, [], ◌∷◌, ◌++◌, map, length, sym, ap, subst, arith}
-use Prim.Native.Nat.{◌∣◌}
-use native.Mathlib.Nat.{mul-div_cancel'}
+use Rattle.std.specs.Int.{◌∣◌}
+use Rattle.std.proofs.Math.Nat.{mul-div_cancel'}
 use Rattle.std.specs.List.{AllByRecursion}
-use Rattle.std.proofs.ByRecursion.{All-append}
-use Rattle.std.proofs.lemmas.Bool.{and_parts, leb-true}
+use Rattle.std.proofs.lemmas.Bool.{and_parts}
+use Rattle.std.proofs.lemmas.Bool.Decides.{nat_tests}
 use Rattle.admission.specs.declared.table.Poll.{Poll}
 use Rattle.admission.specs.declared.table.Lane.{Lane}
 use Rattle.admission.specs.Limits.{poll_fits, lane_fits, all_fit}
@@ -15,6 +15,7 @@ use Rattle.admission.specs.Laws.{CommonMultiple}
 use Rattle.admission.proofs.Cycles.{Positive, least_from}
 use Rattle.machine.specs.Limits.{first_lane, most_ahead}
 use Rattle.machine.specs.Polls.{relative_deadline}
+use Rattle.machine.proofs.Each.{each_weaker, each_mapped, each_joined, each_front, each_back}
 
 -- a poll's job is due before the next one is released, and the poll's slots of a cycle pay for its jobs
 pub record PollLaws (cycle : ℕ) (poll : Poll) : Type 0 where
@@ -46,40 +47,14 @@ record LaneNumbers (lane : Lane) : Type 0 where
   some_quota : 1 ≤ lane.quota
 
 poll_numbers : (poll : Poll) → poll_fits poll ≡ true → PollNumbers poll
-poll_numbers poll h =
-    let a = and_parts _ _ h in
-    let b = and_parts _ _ a.1 in
-    let c = and_parts _ _ b.1 in
-    let d = and_parts _ _ c.1 in
-    record { some_period = leb-true 1 poll.period b.0; some_budget = leb-true 1 poll.budget d.0 }
+poll_numbers poll h = record { some_period = grind (arith, nat_tests); some_budget = grind (arith, nat_tests) }
 
 lane_numbers : (lane : Lane) → lane_fits lane ≡ true → LaneNumbers lane
-lane_numbers lane h =
-    let a = and_parts _ _ h in
-    let b = and_parts _ _ a.1 in
-    let c = and_parts _ _ b.1 in
-    record { some_span = leb-true 1 lane.span a.0; some_quota = leb-true 1 lane.quota c.0 }
+lane_numbers lane h = record { some_span = grind (arith, nat_tests); some_quota = grind (arith, nat_tests) }
 
 all_pass : {X : Type 0} (fits : X → Bool) (P : X → Type 0) → ((x : X) → fits x ≡ true → P x) → (xs : List X) → all_fit fits xs ≡ true → AllByRecursion P xs
 all_pass fits P f [] h = tt
 all_pass fits P f (x ∷ xs) h = let p = and_parts (fits x) (all_fit fits xs) h in (f x p.0, all_pass fits P f xs p.1)
-
--- the lengths are positive, and each divides the cycle
-poll_positive : (polls : List Poll) → AllByRecursion PollNumbers polls → Positive (map (λ poll. poll.period) polls)
-poll_positive [] h = tt
-poll_positive (poll ∷ polls) h = (h.0.some_period, poll_positive polls h.1)
-
-lane_positive : (lanes : List Lane) → AllByRecursion LaneNumbers lanes → Positive (map (λ lane. lane.span) lanes)
-lane_positive [] h = tt
-lane_positive (lane ∷ lanes) h = (h.0.some_span, lane_positive lanes h.1)
-
-all_front : {X : Type 0} (P : X → Type 0) (xs ys : List X) → AllByRecursion P (xs ++ ys) → AllByRecursion P xs
-all_front P [] ys h = tt
-all_front P (x ∷ xs) ys h = (h.0, all_front P xs ys h.1)
-
-all_back : {X : Type 0} (P : X → Type 0) (xs ys : List X) → AllByRecursion P (xs ++ ys) → AllByRecursion P ys
-all_back P [] ys h = h
-all_back P (x ∷ xs) ys h = all_back P xs ys h.1
 
 poll_laws : (cycle : ℕ) (polls : List Poll) → AllByRecursion PollNumbers polls → CommonMultiple (map (λ poll. poll.period) polls) cycle → AllByRecursion (PollLaws cycle) polls
 poll_laws cycle [] n d = tt
@@ -107,11 +82,16 @@ sound table a =
     let spans = map (λ (lane : Lane). lane.span) table.lanes in
     let ps = all_pass poll_fits PollNumbers poll_numbers table.polls a.polls_fit in
     let ls = all_pass lane_fits LaneNumbers lane_numbers table.lanes a.lanes_fit in
-    let least = least_from 1 (periods ++ spans) (omega arith) (All-append (λ n. 0 < n) periods spans (poll_positive table.polls ps) (lane_positive table.lanes ls)) in
+    -- the lengths are positive, and each divides the cycle
+    let positive : Positive (periods ++ spans) =
+    each_joined (λ n. 0 < n) periods spans
+    (each_mapped (λ n. 0 < n) (λ (poll : Poll). poll.period) table.polls (each_weaker PollNumbers (λ poll. 0 < poll.period) (λ poll n. n.some_period) table.polls ps))
+    (each_mapped (λ n. 0 < n) (λ (lane : Lane). lane.span) table.lanes (each_weaker LaneNumbers (λ lane. 0 < lane.span) (λ lane n. n.some_span) table.lanes ls)) in
+    let least = least_from 1 (periods ++ spans) (omega arith) positive in
     let common : CommonMultiple (periods ++ spans) table.cycle = subst (CommonMultiple (periods ++ spans)) (sym a.cycle_is) least.common in
     record {
-      polls = poll_laws table.cycle table.polls ps (all_front (λ n. n ∣ table.cycle) periods spans common);
-      lanes = lane_laws table.cycle table.lanes ls (all_back (λ n. n ∣ table.cycle) periods spans common);
+      polls = poll_laws table.cycle table.polls ps (each_front (λ n. n ∣ table.cycle) periods spans common);
+      lanes = lane_laws table.cycle table.lanes ls (each_back (λ n. n ∣ table.cycle) periods spans common);
       few_polls = a.few_polls;
       few_lanes = a.few_lanes;
       some_cycle = (let e = a.cycle_is in let p = least.some in omega arith);

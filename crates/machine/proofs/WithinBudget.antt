@@ -1,6 +1,5 @@
 -- WITHIN THE BUDGET: a job's account never holds more than was born of it, and a finished job is not in the bag any more.
-use Rattle.std.proofs.Common.{◌≡◌, ℕ, ◌-◌, ◌<◌, ◌≤◌, Bool, true, false, cond, List, [], ◌∷◌, length, None, sym, refl, ap, ◌∙◌, subst, inl, inr, arith}
-use Rattle.std.specs.List.{AllByRecursion}
+use Rattle.std.proofs.Common.{◌≡◌, ℕ, ◌-◌, ◌<◌, ◌≤◌, Bool, true, false, List, [], ◌∷◌, Ok, length, None, sym, refl, ap, ◌∙◌, subst, inl, inr, arith}
 use Rattle.std.proofs.lemmas.Bool.{cases_lt}
 use Rattle.std.proofs.lemmas.Bool.Decides.{nat_tests}
 use Rattle.pile.specs.Sorted.{first_of}
@@ -13,13 +12,14 @@ use Rattle.machine.specs.Lanes.{lane_owner}
 use Rattle.machine.specs.Machine.{Setup, refusal_of, said, owner_of, deadline_of}
 use Rattle.machine.specs.History.{after, record_of, slots_in, was_finished, last_granted}
 use Rattle.machine.specs.Promises.{Opened, poll_at, poll_deadline, NoneAfterFinish, WithinBudget}
+use Rattle.machine.proofs.Bags.{one_if}
 use Rattle.machine.proofs.Along.{along, entry}
 use Rattle.machine.proofs.Questions.{report_accepted}
 use Rattle.machine.proofs.Basics.{table_of, poll_of, upto, basic}
-use Rattle.machine.proofs.NoneLate.{never_late}
+use Rattle.machine.proofs.NoneLate.{first_in_time}
 use Rattle.machine.proofs.LaneDeadlines.{remembered}
 use Rattle.machine.proofs.Born.{weighed, born_of_requests, born_of_none, born_of_no_request, born_most, born_accepted, born_once, accepted_has}
-use Rattle.machine.proofs.Accounts.{by_slots, as_one, born, account}
+use Rattle.machine.proofs.Accounts.{by_slots, as_one, born, times_in, account}
 
 -- no job is born twice
 born_one : (m : Setup) → Opened m → (calls : List Call) (owner deadline : ℕ) → born as_one m (after m calls) (record_of m calls) owner deadline ≤ 1
@@ -41,10 +41,6 @@ first_counts : (jobs : List Job) → (owner_of (first_of jobs) ≡ nobody → �
 first_counts [] ne = absurd (ne refl)
 first_counts (job ∷ jobs) ne = let z : weighed as_one job.owner job.deadline job ≡ 1 = grind (arith, nat_tests) in omega (arith, z)
 
-first_positive : (n : ℕ) (jobs : List Job) → AllByRecursion (λ job. n < job.deadline) jobs → (owner_of (first_of jobs) ≡ nobody → ⊥) → 0 < deadline_of (first_of jobs)
-first_positive n [] h ne = absurd (ne refl)
-first_positive n (job ∷ jobs) h ne = let q = h.0 in omega arith
-
 -- the open slot's job was not finished before
 not_finished : (m : Setup) → Opened m → (calls : List Call) → (owner deadline : ℕ) → owner ≡ owner_of (first_of (after m calls).bag) → deadline ≡ deadline_of (first_of (after m calls).bag) →
     (owner ≡ nobody → ⊥) → was_finished owner deadline (slots_in (record_of m calls)) ≡ false
@@ -57,9 +53,9 @@ not_finished m o calls owner deadline po pd ne = go (was_finished owner deadline
     some q = ne (po ∙ q)
 
     z : 0 < deadline
-    z = omega (arith, pd, first_positive (after m calls).slot (after m calls).bag (never_late m o calls) some)
+    z = omega (arith, pd, first_in_time m o calls some)
 
-    counted : 1 ≤ sum_of (weighed as_one owner deadline) (after m calls).bag
+    counted : 1 ≤ times_in owner deadline (after m calls).bag
     counted = subst (λ x. 1 ≤ sum_of (weighed as_one x deadline) (after m calls).bag) (sym po)
         (subst (λ y. 1 ≤ sum_of (weighed as_one (owner_of (first_of (after m calls).bag)) y) (after m calls).bag) (sym pd) (first_counts (after m calls).bag some))
 
@@ -67,13 +63,13 @@ not_finished m o calls owner deadline po pd ne = go (was_finished owner deadline
     go false e = e
     go true e = absurd (omega (arith, (account m o calls owner deadline z).once, born_one m o calls owner deadline, counted, one_at e))
       where
-        one_at : was_finished owner deadline (slots_in (record_of m calls)) ≡ true → ◌≡◌ {A = ℕ} (cond (was_finished owner deadline (slots_in (record_of m calls))) 1 0) 1
-        one_at q = rw q refl
+        one_at : was_finished owner deadline (slots_in (record_of m calls)) ≡ true → one_if (was_finished owner deadline (slots_in (record_of m calls))) ≡ 1
+        one_at q = ap one_if q
 
 none_after_finish : (m : Setup) → Opened m → (calls : List Call) → NoneAfterFinish (slots_in (record_of m calls))
 none_after_finish m o = along m (λ s es. NoneAfterFinish (slots_in es)) tt (λ calls call refusal _ h. h) moves
   where
-    moves : (calls : List Call) (call : Call) → refusal_of m (after m calls) call ≡ None → NoneAfterFinish (slots_in (record_of m calls)) → NoneAfterFinish (slots_in (entry call (said m (after m calls) call) ∷ record_of m calls))
+    moves : (calls : List Call) (call : Call) → refusal_of m (after m calls) call ≡ None → NoneAfterFinish (slots_in (record_of m calls)) → NoneAfterFinish (slots_in (entry call (Ok (said m (after m calls) call)) ∷ record_of m calls))
     moves calls (Request j budget) e h = h
     moves calls Grant e h = h
     moves calls (Report unit slot outcome) e h =

@@ -1,5 +1,5 @@
 -- The lane's rule: what deadline a request gets, and how many a lane may have ahead.
-use Rattle.std.specs.Prelude.{ℕ, ◌+◌, ◌-◌, ◌*◌, ◌/◌, max, cond, List, nat_lt, slice_index}
+use Rattle.std.specs.Prelude.{ℕ, ◌+◌, ◌-◌, ◌*◌, ◌/◌, max, List, if◌then◌else◌, nat_lt, slice_index}
 use Rattle.queue.specs.declared.job.Job.{Job}
 use Rattle.admission.specs.declared.table.Lane.{Lane}
 use Rattle.admission.specs.Sums.{sum_of}
@@ -30,4 +30,4 @@ lane_job j deadline budget = record { deadline = deadline; owner = lane_owner j;
 
 -- how many of these deadlines lie past the slot
 abbrev pub ahead : ℕ → List ℕ → ℕ
-ahead slot recent = sum_of (λ deadline. cond (nat_lt slot deadline) 1 0) recent
+ahead slot recent = sum_of (λ deadline. if nat_lt slot deadline then 1 else 0) recent

@@ -1,6 +1,7 @@
 -- THE PLAIN MACHINE: what a unit is, and what each call does to it. A call asks its questions in their order; the first no
 -- refuses it, and a refused call changes nothing.
-use Rattle.std.specs.Prelude.{ℕ, suc, ◌+◌, ◌*◌, Bool, true, false, cond, not, ◌&&◌, ◌||◌, List, [], ◌∷◌, map, length, take, Some, None, Option, ◌==◌, nat_le, nat_lt, slice_index_or, slice_set}
+use Rattle.std.specs.Prelude.{ℕ, suc, ◌+◌, ◌*◌, Bool, true, false, not, ◌&&◌, ◌||◌, List, [], ◌∷◌, map, length, take, Some, None, Option, is_some, Ok, Err, Result, if◌then◌else◌, ◌==◌, nat_le, nat_lt, slice_index_or, slice_set}
+use Rattle.std.specs.Option.{option_map_or}
 use Rattle.pile.specs.Sorted.{first_of, without_first}
 use Rattle.queue.specs.declared.job.Job.{Job}
 use Rattle.queue.specs.Jobs.{put_job, spent}
@@ -8,8 +9,8 @@ use Rattle.admission.specs.declared.table.Lane.{Lane}
 use Rattle.admission.specs.Contents.{Contents, unfilled}
 use Rattle.machine.specs.declared.call.Call.{Call}
 use Rattle.machine.specs.declared.call.Call.TheVariants.{Request, Grant, Report}
-use Rattle.machine.specs.declared.call.Answer.{Answer}
-use Rattle.machine.specs.declared.call.Answer.TheVariants.{Deadline, Granted, Reported, Refused}
+use Rattle.machine.specs.declared.call.Reply.{Reply}
+use Rattle.machine.specs.declared.call.Reply.TheVariants.{Deadline, Granted, Reported}
 use Rattle.machine.specs.declared.call.Outcome.{Outcome}
 use Rattle.machine.specs.declared.call.Outcome.TheVariants.{Used, Finished}
 use Rattle.machine.specs.declared.refusal.Refusal.{Refusal}
@@ -53,7 +54,7 @@ fresh m = record { bag = []; slot = 0; is_open = false; recent = map (λ lane. [
 
 -- QUESTIONS: on a no the call is refused, and on a yes the next question is asked
 abbrev pub ask : Bool → Refusal → Option Refusal → Option Refusal
-ask is_yes refusal next = cond is_yes next (Some refusal)
+ask is_yes refusal next = if is_yes then next else Some refusal
 
 -- the places that a queue must have for a table
 abbrev pub places_for : Contents → ℕ
@@ -136,23 +137,22 @@ abbrev pub deadline_of : Option Job → ℕ
 deadline_of (Some job) = job.deadline
 deadline_of None = 0
 
-abbrev pub said : Setup → State → Call → Answer
+abbrev pub said : Setup → State → Call → Reply
 said m s (Request j budget) = Deadline (new_deadline m s j budget)
 said m s Grant = Granted m.unit s.slot (owner_of (first_of (put_all (released m s) s.bag))) (deadline_of (first_of (put_all (released m s) s.bag)))
 said m s (Report unit slot outcome) = Reported
 
--- CALLS
-abbrev pub by_refusal : {X : Type 0} → Option Refusal → (Refusal → X) → X → X
-by_refusal (Some refusal) refused accepted = refused refusal
-by_refusal None refused accepted = accepted
+-- CALLS. The answer to a call is what it says if it is accepted, or why it is refused
+abbrev pub Answer : Type 0
+Answer = Result Reply Refusal
 
 abbrev pub next : Setup → State → Call → State
-next m s call = by_refusal (refusal_of m s call) (λ _. s) (moved m s call)
+next m s call = if is_some (refusal_of m s call) then s else moved m s call
 
 abbrev pub answer : Setup → State → Call → Answer
-answer m s call = by_refusal (refusal_of m s call) Refused (said m s call)
+answer m s call = option_map_or Err (refusal_of m s call) (Ok (said m s call))
 
 abbrev pub opening : Machine → Contents → ℕ → Machine
 opening machine table unit =
-    by_refusal (open_refusal machine table) (λ _. machine)
-    (record { setup = set_up machine.setup.places table unit; state = fresh (set_up machine.setup.places table unit) })
+    if is_some (open_refusal machine table) then machine
+    else record { setup = set_up machine.setup.places table unit; state = fresh (set_up machine.setup.places table unit) }

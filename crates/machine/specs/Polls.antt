@@ -1,5 +1,5 @@
 -- When a poll releases a job, and what the job is.
-use Rattle.std.specs.Prelude.{ℕ, suc, ◌+◌, ◌-◌, ◌%◌, Bool, cond, ◌&&◌, List, [], ◌∷◌, ◌==◌, nat_le}
+use Rattle.std.specs.Prelude.{ℕ, suc, ◌+◌, ◌-◌, ◌%◌, Bool, ◌&&◌, List, [], ◌∷◌, if◌then◌else◌, ◌==◌, nat_le}
 use Rattle.queue.specs.declared.job.Job.{Job}
 use Rattle.admission.specs.declared.table.Poll.{Poll}
 
@@ -18,4 +18,4 @@ poll_job slot i poll = record { deadline = slot + relative_deadline poll; owner 
 -- all jobs that are released at a slot, by polls that are numbered from i on
 unfoldable pub jobs_at : ℕ → ℕ → List Poll → List Job
 jobs_at slot i [] = []
-jobs_at slot i (poll ∷ polls) = cond (is_released slot poll) (poll_job slot i poll ∷ jobs_at slot (suc i) polls) (jobs_at slot (suc i) polls)
+jobs_at slot i (poll ∷ polls) = if is_released slot poll then poll_job slot i poll ∷ jobs_at slot (suc i) polls else jobs_at slot (suc i) polls

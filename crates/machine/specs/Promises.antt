@@ -1,16 +1,14 @@
 -- THE PROMISES: what holds of every history, read from its record.
-use Rattle.std.specs.Prelude.{◌≡◌, ℕ, ◌+◌, ◌-◌, ◌*◌, ◌<◌, ◌≤◌, true, false, ◌⊎◌, List, [], ◌∷◌, length, ◌≢◌, slice_index_or}
+use Rattle.std.specs.Prelude.{◌≡◌, ℕ, ◌+◌, ◌-◌, ◌*◌, ◌<◌, ◌≤◌, true, false, ◌⊎◌, List, [], ◌∷◌, length, ◌≢◌, slice_index_or, IfErr, ⊤}
 use Rattle.std.specs.List.{AllByRecursion}
 use Rattle.admission.specs.declared.table.Poll.{Poll}
 use Rattle.admission.specs.Contents.{Contents, Admissible}
 use Rattle.machine.specs.declared.call.Call.{Call}
-use Rattle.machine.specs.declared.call.Answer.{Answer}
-use Rattle.machine.specs.declared.call.Answer.TheVariants.{Deadline, Granted, Reported, Refused}
 use Rattle.machine.specs.Refusals.{refusal_number}
 use Rattle.machine.specs.Limits.{nobody}
 use Rattle.machine.specs.Polls.{relative_deadline}
 use Rattle.machine.specs.Lanes.{lane_owner}
-use Rattle.machine.specs.Machine.{Setup, places_for, lane_at}
+use Rattle.machine.specs.Machine.{Setup, Answer, places_for, lane_at}
 use Rattle.machine.specs.History.{Entry, Slot, record_of, slots_closed, slots_in, slots_of, was_finished, Accepted, asked_of, told_back, deadlines_of, budgets_within}
 
 -- the unit was opened without refusal: its table is admissible, and its queue has the places for it
@@ -60,10 +58,7 @@ SectionsApart m es =
 
 -- no call is refused for want of a place
 abbrev pub HasPlace : Answer → Type 0
-HasPlace (Deadline d) = Unit {0}
-HasPlace (Granted u k o d) = Unit {0}
-HasPlace Reported = Unit {0}
-HasPlace (Refused refusal) = (refusal_number refusal ≢ 34) × (refusal_number refusal ≢ 42)
+HasPlace answer = IfErr answer (λ refusal. (refusal_number refusal ≢ 34) × (refusal_number refusal ≢ 42))
 
 abbrev pub NeverFull : List Entry → Type 0
 NeverFull es = AllByRecursion (λ e. HasPlace e.told) es
@@ -72,7 +67,7 @@ NeverFull es = AllByRecursion (λ e. HasPlace e.told) es
 
 -- each deadline, the newest first, is later than all before it
 abbrev pub Growing : List ℕ → Type 0
-Growing [] = Unit {0}
+Growing [] = ⊤
 Growing (deadline ∷ older) = AllByRecursion (λ d. d < deadline) older × Growing older
 
 -- no two jobs share owner and deadline, so that 'the job of a slot' is well said
@@ -88,7 +83,7 @@ pub record EachPairOneJob (table : Contents) (es : List Entry) : Type 0 where
 
 -- no slot goes to a job after one of its reports said finished
 abbrev pub NoneAfterFinish : List Slot → Type 0
-NoneAfterFinish [] = Unit {0}
+NoneAfterFinish [] = ⊤
 NoneAfterFinish (slot ∷ older) = ((slot.owner ≢ nobody) → was_finished slot.owner slot.deadline older ≡ false) × NoneAfterFinish older
 
 -- no job gets more slots than its budget, and none after it is finished

@@ -1,12 +1,11 @@
 -- Two halls and a history of each, worked out: the definitions say what they should, and units that were opened exist.
-use Rattle.std.specs.Prelude.{◌≡◌, ℕ, zero, suc, List, [], ◌∷◌, ◌++◌, map, reverse, replicate}
+use Rattle.std.specs.Prelude.{◌≡◌, ℕ, zero, suc, List, [], ◌∷◌, ◌++◌, map, reverse, replicate, Ok, Err}
 use Rattle.machine.specs.declared.call.Call.{Call}
 use Rattle.machine.specs.declared.call.Call.TheVariants.{Request, Grant, Report}
-use Rattle.machine.specs.declared.call.Answer.{Answer}
-use Rattle.machine.specs.declared.call.Answer.TheVariants.{Deadline, Granted, Reported, Refused}
+use Rattle.machine.specs.declared.call.Reply.TheVariants.{Deadline, Granted, Reported}
 use Rattle.machine.specs.declared.call.Outcome.TheVariants.{Used, Finished}
 use Rattle.machine.specs.declared.refusal.Refusal.TheVariants.{NoSuchLane, DuringSlot, NotThisSlot, SlotOpen, BudgetOutOfRange}
-use Rattle.machine.specs.Machine.{Setup, set_up, fresh}
+use Rattle.machine.specs.Machine.{Setup, Answer, set_up, fresh}
 use Rattle.machine.specs.History.{answers_from, record_of, slots_in}
 use Rattle.machine.specs.Promises.{Opened}
 
@@ -23,9 +22,9 @@ small_day =
 
 abbrev pub small_answers : List Answer
 small_answers =
-    Deadline 6 ∷ Refused NoSuchLane ∷ Refused BudgetOutOfRange ∷ Granted 7 0 32 6 ∷ Refused DuringSlot ∷ Refused SlotOpen ∷ Reported
-    ∷ Granted 7 1 0 5 ∷ Reported ∷ Deadline 8 ∷ Granted 7 2 32 6 ∷ Refused NotThisSlot ∷ Refused NotThisSlot ∷ Reported
-    ∷ Granted 7 3 32 8 ∷ Reported ∷ Granted 7 4 255 0 ∷ []
+    Ok (Deadline 6) ∷ Err NoSuchLane ∷ Err BudgetOutOfRange ∷ Ok (Granted 7 0 32 6) ∷ Err DuringSlot ∷ Err SlotOpen ∷ Ok Reported
+    ∷ Ok (Granted 7 1 0 5) ∷ Ok Reported ∷ Ok (Deadline 8) ∷ Ok (Granted 7 2 32 6) ∷ Err NotThisSlot ∷ Err NotThisSlot ∷ Ok Reported
+    ∷ Ok (Granted 7 3 32 8) ∷ Ok Reported ∷ Ok (Granted 7 4 255 0) ∷ []
 
 -- A FULL HALL: 32 polls of 1 slot in 64 and 8 lanes of 1 in 16, load 64 of 64
 abbrev pub full_hall : Setup

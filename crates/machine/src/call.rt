@@ -2,13 +2,13 @@
 use super::refusal::Refusal;
 
 // What a report says of the slot: the job used it, or it used it and is finished.
-#[derive(Clone, Copy)]
+#[derive(Clone, Copy, Debug, PartialEq, Eq)]
 pub enum Outcome {
     Used,
     Finished,
 }
 
-#[derive(Clone, Copy)]
+#[derive(Clone, Copy, Debug, PartialEq, Eq)]
 pub enum Call {
     // a lane asks for so many slots
     Request {
@@ -25,9 +25,10 @@ pub enum Call {
     },
 }
 
-#[derive(Clone, Copy)]
-pub enum Answer {
-    // a request is accepted with this deadline
+// What an accepted call replies.
+#[derive(Clone, Copy, Debug, PartialEq, Eq)]
+pub enum Reply {
+    // a request gets this deadline
     Deadline(u32),
     // a slot is open; its token has these four numbers
     Granted {
@@ -38,5 +39,6 @@ pub enum Answer {
     },
     // the slot is closed
     Reported,
-    Refused(Refusal),
 }
+
+pub type Answer = Result<Reply, Refusal>;

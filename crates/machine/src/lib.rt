@@ -6,5 +6,5 @@ pub mod call;
 pub mod promise;
 pub mod refusal;
 
-pub use call::{Answer, Call, Outcome};
+pub use call::{Answer, Call, Outcome, Reply};
 pub use refusal::Refusal;

@@ -1,58 +1,43 @@
-// Why a call on the unit is refused: the question that was answered with no.
+// Why a call on the unit is refused: the question that was answered with no. Each refusal stands for its number.
 ghost use Rattle.std.specs.Prelude.{◌≡◌};
 ghost use Rattle.machine.specs.Refusals.{refusal_number};
 
-#[derive(Clone, Copy)]
+#[derive(Clone, Copy, Debug, PartialEq, Eq)]
 pub enum Refusal {
     // opening: the table has neither poll nor lane
-    EmptyTable,
+    EmptyTable = 20,
     // opening: the queue holds jobs
-    QueueInUse,
+    QueueInUse = 21,
     // opening: the queue has too few places for the table
-    TooFewPlaces,
+    TooFewPlaces = 22,
     // opening: the unit is opened already
-    OpenedBefore,
+    OpenedBefore = 23,
     // request: a slot is open
-    DuringSlot,
+    DuringSlot = 30,
     // request: there is no such lane
-    NoSuchLane,
+    NoSuchLane = 31,
     // request: the budget is 0, or larger than 10,000
-    BudgetOutOfRange,
+    BudgetOutOfRange = 32,
     // request: eight of the lane's deadlines lie ahead
-    LaneAhead,
+    LaneAhead = 33,
     // request: every place of the queue is taken
-    QueueFull,
+    QueueFull = 34,
     // grant: a slot is open
-    SlotOpen,
+    SlotOpen = 40,
     // grant: the last slot has been granted
-    SlotsUsedUp,
+    SlotsUsedUp = 41,
     // grant: there is no place for a poll job that is released now
-    NoPlaceForRelease,
+    NoPlaceForRelease = 42,
     // grant: the unit is not opened
-    Unopened,
+    Unopened = 43,
     // report: no slot is open that the token is of
-    NotThisSlot,
+    NotThisSlot = 50,
 }
 
 impl Refusal {
     pub fn number(self) -> u8
         ensures value { result ≡ refusal_number self }
     {
-        match self {
-            Refusal::EmptyTable => 20,
-            Refusal::QueueInUse => 21,
-            Refusal::TooFewPlaces => 22,
-            Refusal::OpenedBefore => 23,
-            Refusal::DuringSlot => 30,
-            Refusal::NoSuchLane => 31,
-            Refusal::BudgetOutOfRange => 32,
-            Refusal::LaneAhead => 33,
-            Refusal::QueueFull => 34,
-            Refusal::SlotOpen => 40,
-            Refusal::SlotsUsedUp => 41,
-            Refusal::NoPlaceForRelease => 42,
-            Refusal::Unopened => 43,
-            Refusal::NotThisSlot => 50,
-        }
+        self as u8
     }
 }

@@ -1,3 +1,4 @@
+-- Both histories are computed by the definitions.
 use Rattle.std.proofs.Common.{refl, lit≤}
 use Rattle.pile.specs.Sorted.{insert}
 use Rattle.queue.specs.Jobs.{sooner}
