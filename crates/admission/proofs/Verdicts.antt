@@ -4,12 +4,12 @@ use Rattle.std.proofs.Common.{◌≡◌, ℕ, ◌+◌, ◌*◌, ◌/◌, ◌<◌
 use Prim.Native.Nat.{◌∣◌}
 use native.Mathlib.Nat.{dvd-mul_right, mul-div_assoc, div-mul_cancel, le_of_mul-le-mul_left, pos_of_dvd_of_pos}
 use Rattle.std.specs.List.{AllByRecursion}
-use Rattle.std.proofs.ByRecursion.{All-append}
 use Rattle.std.proofs.lemmas.List.{map-append}
 use Rattle.std.proofs.lemmas.Bool.{le-leb, lt-leb, leb-true, cases_lt}
 use Rattle.sheet.specs.Entries.{Entry, place_of}
 use Rattle.sheet.specs.Limited.{WithinLimits}
 use Rattle.sheet.specs.Reading.{read_sheet, next}
+use Rattle.sheet.proofs.Each.{each_joined}
 use Rattle.sheet.proofs.Answers.{ok_same, cond_ok, next_ok}
 use Rattle.sheet.proofs.WellReading.{well_read}
 use Rattle.admission.specs.declared.fault.AdmissionFault.TheVariants.{Cycle}
@@ -43,7 +43,7 @@ lengths_more : (before : List Entry) (entry : Entry) → multiple_of_all 1 (leng
 lengths_more before entry = ap (multiple_of_all 1) (map-append length_of before (entry ∷ [])) ∙ multiple_append 1 (lengths before) (length_of entry ∷ [])
 
 positive_more : (before : List Entry) (entry : Entry) → Positive (lengths before) → 0 < length_of entry → Positive (lengths (before ++ (entry ∷ [])))
-positive_more before entry h p = subst Positive (sym (map-append length_of before (entry ∷ []))) (All-append (λ n. 0 < n) (lengths before) (length_of entry ∷ []) h (p, tt))
+positive_more before entry h p = subst Positive (sym (map-append length_of before (entry ∷ []))) (each_joined (λ n. 0 < n) (lengths before) (length_of entry ∷ []) h (p, tt))
 
 -- past the limit some record is the first
 grows : (before entries : List Entry) (start : ℕ) → start ≡ multiple_of_all 1 (lengths before) → start ≤ longest_cycle → Positive (lengths before) → Positive (lengths entries) → 0 < start → longest_cycle < multiple_of_all start (lengths entries) →

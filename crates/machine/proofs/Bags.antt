@@ -12,7 +12,7 @@ use Rattle.machine.specs.declared.call.Outcome.{Outcome}
 use Rattle.machine.specs.declared.call.Outcome.TheVariants.{Used, Finished}
 use Rattle.machine.specs.Machine.{put_all, worked}
 use Rattle.machine.specs.History.{is_finish}
-use Rattle.machine.proofs.Each.{each_weaker}
+use Rattle.sheet.proofs.Each.{each_weaker}
 
 -- a test counted as a number
 abbrev pub one_if : Bool → ℕ

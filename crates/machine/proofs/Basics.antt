@@ -14,7 +14,7 @@ use Rattle.machine.specs.Polls.{is_released, poll_job, jobs_at}
 use Rattle.machine.specs.Machine.{Setup, State, fresh, refusal_of, moved, said, lane_at, recent_at, released, new_deadline, owner_of, deadline_of}
 use Rattle.machine.specs.History.{Entry, Slot, after, record_of, slots_closed, slot_is_open, last_granted}
 use Rattle.machine.specs.Promises.{Opened, poll_at}
-use Rattle.machine.proofs.Each.{each_at}
+use Rattle.sheet.proofs.Each.{each_at}
 use Rattle.machine.proofs.Tables.{Sound, PollLaws, LaneFits, sound}
 use Rattle.machine.proofs.Bags.{Rising, Positive, rising_put, rising_put_all, rising_worked, all_put, all_put_all, positive_worked}
 use Rattle.machine.proofs.Along.{along, entry}

@@ -16,7 +16,7 @@ use Rattle.machine.specs.Lanes.{lane_owner}
 use Rattle.machine.specs.Machine.{Answer}
 use Rattle.machine.specs.History.{Entry, Accepted, deadlines_of, deadline_by}
 use Rattle.machine.specs.Promises.{Growing}
-use Rattle.machine.proofs.Each.{each_weaker}
+use Rattle.sheet.proofs.Each.{each_weaker}
 use Rattle.machine.proofs.Bags.{one_if, one_if_most}
 use Rattle.machine.proofs.Releases.{no_poll, released_none, released_one}
 

@@ -16,7 +16,7 @@ use Rattle.machine.specs.Lanes.{lane_owner, lane_job, ahead}
 use Rattle.machine.specs.Machine.{Setup, State, refusal_of, moved, recent_at, released, new_deadline}
 use Rattle.machine.specs.History.{Entry, after, record_of, deadlines_of}
 use Rattle.machine.specs.Promises.{Opened, Growing, poll_at}
-use Rattle.machine.proofs.Each.{each_weaker, each_taken}
+use Rattle.sheet.proofs.Each.{each_weaker, each_taken}
 use Rattle.machine.proofs.Bags.{one_if, one_if_most, sum_put, sum_put_all, sum_worked, all_put, all_put_all, all_worked}
 use Rattle.machine.proofs.PollSource.{mark, mark_due}
 use Rattle.machine.proofs.Along.{along}

@@ -10,7 +10,7 @@ use Rattle.machine.specs.Lanes.{clock_of}
 use Rattle.machine.specs.Machine.{Setup, State, refusal_of, moved, said, lane_at, recent_at, new_deadline}
 use Rattle.machine.specs.History.{Entry, after, record_of, deadlines_of}
 use Rattle.machine.specs.Promises.{Opened, Growing}
-use Rattle.machine.proofs.Each.{each_weaker}
+use Rattle.sheet.proofs.Each.{each_weaker}
 use Rattle.machine.proofs.LaneRule.{deadline_grows}
 use Rattle.machine.proofs.Along.{along, entry}
 use Rattle.machine.proofs.Questions.{Asked, request_accepted}

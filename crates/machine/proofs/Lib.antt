@@ -1,4 +1,3 @@
-pub mod Each
 pub mod Tables
 pub mod Bags
 pub mod Earliest

@@ -15,7 +15,7 @@ use Rattle.admission.specs.Laws.{CommonMultiple}
 use Rattle.admission.proofs.Cycles.{Positive, least_from}
 use Rattle.machine.specs.Limits.{first_lane, most_ahead}
 use Rattle.machine.specs.Polls.{relative_deadline}
-use Rattle.machine.proofs.Each.{each_weaker, each_mapped, each_joined, each_front, each_back}
+use Rattle.sheet.proofs.Each.{each_weaker, each_mapped, each_joined, each_front, each_back}
 
 -- a poll's job is due before the next one is released, and the poll's slots of a cycle pay for its jobs
 pub record PollLaws (cycle : ℕ) (poll : Poll) : Type 0 where

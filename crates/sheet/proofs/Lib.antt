@@ -1,4 +1,5 @@
 pub mod Answers
+pub mod Each
 pub mod Names
 pub mod Turns
 pub mod Unrolled

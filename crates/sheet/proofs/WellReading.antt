@@ -2,7 +2,6 @@
 use Rattle.std.proofs.Common.{◌≡◌, ℕ, zero, suc, ◌+◌, ◌≤◌, true, false, cond, not, ltb, leb, List, [], ◌∷◌, ◌++◌, length, take, drop, Ok, Result, sym, refl, ap, ◌∙◌, subst, zero-add, arith, length-drop, length-take-le}
 use Rattle.std.specs.List.{AllByRecursion}
 use Rattle.std.specs.Str.{bytes_eq}
-use Rattle.std.proofs.ByRecursion.{All-push}
 use Rattle.std.proofs.lemmas.Slice.Eq.{bytes_eq-Decides}
 use Rattle.std.proofs.lemmas.List.{length_push}
 use Rattle.std.proofs.lemmas.Bool.{and_parts, or_parts, not-true, both_ways, leb-true, eqb-true, lt-ltb, le-ltb}
@@ -19,6 +18,7 @@ use Rattle.sheet.specs.Reading.{numbered, entries_from, read_sheet}
 use Rattle.sheet.specs.Questions.{Question, AllYes, header_questions, record_questions}
 use Rattle.sheet.specs.Limited.{WithinLimits}
 use Rattle.sheet.specs.Laws.{WellNamed, Distinct, Tiles, PollsFirst, WellRead}
+use Rattle.sheet.proofs.Each.{each_joined}
 use Rattle.sheet.proofs.Answers.{ok_same, cond_ok}
 use Rattle.sheet.proofs.Unrolled.{asked, entry_here, here_kind, here_name, here_place, behind, record_asked, entries_claimed, sheet_asked}
 
@@ -36,7 +36,7 @@ distinct_push [] entry h free = (tt, tt)
 distinct_push (other ∷ entries) entry h free =
     let both = or_parts (bytes_eq (name_of other) (name_of entry)) (is_taken (name_of entry) (names_of entries)) free in
     let apart : name_of other ≡ name_of entry → ⊥ = λ e. both_ways (bytes_eq (name_of other) (name_of entry)) both.0 ((bytes_eq-Decides (name_of other) (name_of entry)).1 e) in
-    (All-push (λ o. name_of other ≡ name_of o → ⊥) entries entry h.0 apart, distinct_push entries entry h.1 both.1)
+    (each_joined (λ o. name_of other ≡ name_of o → ⊥) entries (entry ∷ []) h.0 (apart, tt), distinct_push entries entry h.1 both.1)
 
 tiles_push : (from : ℕ) (entries : List Entry) (at : ℕ) (entry : Entry) → Tiles from entries at → place_of entry ≡ at → Tiles from (entries ++ (entry ∷ [])) (end_of entry)
 tiles_push from [] at entry h p = (p ∙ sym h, refl)
@@ -96,8 +96,8 @@ module _ (polls : ℕ) (sheet : List ℕ) where
       let named : WellNamed entry = subst (λ n. (1 ≤ length n) × (length n ≤ longest_name) × (is_plain n ≡ true)) (sym name) (long.0, long.1, allowed.0) in
       let free : is_taken (name_of entry) (names_of earlier) ≡ false = ap (λ n. is_taken n (names_of earlier)) name ∙ not-true _ allowed.1 in
       record {
-        limits = All-push WithinLimits earlier entry s.limits (limits_here kind (name_bytes sheet at) sheet _ at h.1.1.1.0);
-        names = All-push WellNamed earlier entry s.names named;
+        limits = each_joined WithinLimits earlier (entry ∷ []) s.limits (limits_here kind (name_bytes sheet at) sheet _ at h.1.1.1.0, tt);
+        names = each_joined WellNamed earlier (entry ∷ []) s.names (named, tt);
         distinct = distinct_push earlier entry s.distinct free;
         tiles = tiles_push header_bytes earlier at entry s.tiles (here_place kind sheet at);
         count = length_push earlier entry ∙ ap (λ n. n + 1) s.count;
