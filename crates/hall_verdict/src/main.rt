@@ -2,18 +2,16 @@
 // 0 where the sheet is admitted, and with 1 where it is refused or cannot be had.
 #![tactic(auto)]
 
-use anyhow::anyhow;
+use anyhow::ensure;
 use notice::Notice;
 use std::io::{Read, Write};
 
 fn main(rt: HostRuntime) -> anyhow::Result<()> {
-    let mut sheet = Vec::new(rt.alloc());
+    let heap = rt.alloc();
+    let mut sheet = Vec::new(heap);
     rt.stdin().read_to_end(&mut sheet)?;
-    let notice = Notice::new(rt.alloc(), sheet.as_slice())?;
+    let notice = Notice::new(heap, sheet.as_slice())?;
     rt.stdout().write_all(notice.text.as_slice())?;
-    if notice.admitted {
-        Ok(())
-    } else {
-        Err(anyhow!("the sheet is refused"))
-    }
+    ensure!(notice.is_admitted(), "the sheet is refused");
+    Ok(())
 }

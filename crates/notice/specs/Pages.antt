@@ -1,5 +1,5 @@
 -- The page: the verdict, the ground of a refusal, and the records with what each takes of a cycle.
-use Rattle.std.specs.Prelude.{ℕ, ◌+◌, ◌≤◌, List, [], ◌∷◌, ◌++◌, Some, None, Ok, Err, codes, decimal, Option, Result}
+use Rattle.std.specs.Prelude.{ℕ, ◌+◌, List, [], ◌∷◌, ◌++◌, Some, None, Ok, Err, codes, decimal, Option, Result}
 use Rattle.sheet.specs.declared.fault.Diagnosis.{Diagnosis}
 use Rattle.sheet.specs.declared.fault.Layer.{Layer}
 use Rattle.sheet.specs.declared.fault.Layer.TheVariants.{Bytes as OfBytes, Record as OfRecord, Admission as OfAdmission}
@@ -9,7 +9,6 @@ use Rattle.sheet.specs.Reading.{read_sheet}
 use Rattle.admission.specs.declared.fault.AdmissionFault.{AdmissionFault}
 use Rattle.admission.specs.declared.fault.AdmissionFault.TheVariants.{Record, Cycle, Load}
 use Rattle.admission.specs.Faults.{admission_diagnosis}
-use Rattle.admission.specs.Demand.{longest_cycle}
 use Rattle.admission.specs.Verdict.{length_of, share_of, slots_of, admit_sheet}
 use Rattle.notice.specs.Columns.{at_left, at_right}
 use Rattle.notice.specs.Grounds.{ground_of}
@@ -44,11 +43,6 @@ known_cycle (Ok pair) = Some pair.1
 known_cycle (Err (Record fault)) = None
 known_cycle (Err (Cycle at)) = None
 known_cycle (Err (Load load cycle)) = Some cycle
-
--- a cycle that is known is within its limit
-abbrev pub Short : Option ℕ → Type 0
-Short None = Unit {0}
-Short (Some cycle) = cycle ≤ longest_cycle
 
 abbrev pub kind_text : Entry → List ℕ
 kind_text (poll name phase period budget at) = codes "poll"

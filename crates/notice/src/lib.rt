@@ -8,19 +8,19 @@ ghost use Rattle.notice.specs.Pages.{known_cycle, page_of};
 use admission::{AdmissionFault, Table};
 use std::alloc::{AllocError, Global};
 
-mod columns;
 mod ground;
+mod line;
 mod records;
 mod verdict;
 
-use records::put_table;
+use records::record_lines;
 use verdict::verdict_lines;
 
-// The text of the page, and whether the sheet is admitted.
+// The text of the page, and the verdict that it tells.
 #[derive(Drop)]
 pub struct Notice {
     pub text: Vec<u8>,
-    pub admitted: bool,
+    pub verdict: Result<(u64, u64), AdmissionFault>,
 }
 
 // The cycle, where the admission came to one.
@@ -28,8 +28,7 @@ fn known_cycle(verdict: Result<(u64, u64), AdmissionFault>) -> Option<u64>
     ensures value { result ≡ known_cycle verdict }
 {
     match verdict {
-        Ok((_, cycle)) => Some(cycle),
-        Err(AdmissionFault::Load { cycle, .. }) => Some(cycle),
+        Ok((_, cycle)) | Err(AdmissionFault::Load { cycle, .. }) => Some(cycle),
         Err(_) => None,
     }
 }
@@ -38,15 +37,20 @@ impl Notice {
     // The notice for a sheet, admitted or not.
     pub fn new(heap: Global, sheet: &[u8]) -> Result<Notice, AllocError>
         ensures text { IfOk result (λ notice. notice.text.items ≡ page_of sheet.now) }
-        ensures admitted { IfOk result (λ notice. notice.admitted ≡ is_ok (admit_sheet sheet.now)) }
+        ensures verdict { IfOk result (λ notice. notice.verdict ≡ admit_sheet sheet.now) }
     {
         let mut table = Table::new();
         let verdict = admission::admit(sheet, &mut table);
-        let mut text = verdict_lines(heap, verdict)?;
-        put_table(heap, &mut text, sheet, known_cycle(verdict))?;
-        Ok(Notice {
-            text,
-            admitted: verdict.is_ok(),
-        })
+        let mut text = verdict_lines(heap, verdict)?.into_bytes();
+        let records = record_lines(heap, sheet, known_cycle(verdict))?;
+        text.extend_from_slice(records.as_slice())?;
+        Ok(Notice { text, verdict })
+    }
+
+    // Whether the sheet is admitted.
+    pub fn is_admitted(&self) -> bool
+        ensures value { result ≡ is_ok self.now.verdict }
+    {
+        self.verdict.is_ok()
     }
 }

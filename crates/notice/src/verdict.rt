@@ -1,8 +1,7 @@
 // The verdict in words: the first line, and the ground of a refusal.
 ghost use Rattle.std.specs.Prelude.{◌≡◌, IfOk, string_bytes};
-ghost use Rattle.notice.specs.Pages.{layer_name, admitted_line, refused_line, verdict_lines};
+ghost use Rattle.notice.specs.Pages.{layer_name, refused_line, verdict_lines};
 
-use crate::columns::put;
 use crate::ground::ground_of;
 use admission::AdmissionFault;
 use sheet::{Diagnosis, Layer};
@@ -18,12 +17,6 @@ fn layer_name(layer: Layer) -> &'static str
     }
 }
 
-fn admitted_line(heap: Global, load: u64, cycle: u64) -> Result<String, AllocError>
-    ensures bytes { IfOk result (λ line. string_bytes line ≡ admitted_line load cycle) }
-{
-    format!(in heap; "admitted {load} of {cycle}\n")
-}
-
 fn refused_line(heap: Global, told: Diagnosis) -> Result<String, AllocError>
     ensures bytes { IfOk result (λ line. string_bytes line ≡ refused_line told) }
 {
@@ -36,24 +29,19 @@ fn refused_line(heap: Global, told: Diagnosis) -> Result<String, AllocError>
     format!(in heap; "refused {number} at byte {byte} ({layer})\n")
 }
 
+// The first line, and the ground of a refusal.
 pub(crate) fn verdict_lines(
     heap: Global,
     verdict: Result<(u64, u64), AdmissionFault>,
-) -> Result<Vec<u8>, AllocError>
-    ensures bytes { IfOk result (λ lines. lines.items ≡ verdict_lines verdict) }
+) -> Result<String, AllocError>
+    ensures bytes { IfOk result (λ lines. string_bytes lines ≡ verdict_lines verdict) }
 {
-    let mut lines = Vec::new(heap);
     match verdict {
-        Ok((load, cycle)) => {
-            let line = admitted_line(heap, load, cycle)?;
-            put(&mut lines, line.as_bytes())?;
-        }
+        Ok((load, cycle)) => format!(in heap; "admitted {load} of {cycle}\n"),
         Err(fault) => {
             let line = refused_line(heap, fault.diagnosis())?;
-            put(&mut lines, line.as_bytes())?;
-            put(&mut lines, ground_of(fault).as_bytes())?;
-            put(&mut lines, b"\n")?;
+            let ground = ground_of(fault);
+            format!(in heap; "{line}{ground}\n")
         }
     }
-    Ok(lines)
 }

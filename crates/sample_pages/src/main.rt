@@ -9,12 +9,14 @@ fn compare(rt: &HostRuntime, name: &str) -> anyhow::Result<()> {
     let sheet = fs::read(rt, format!(in heap; "{name}.sheet")?.as_str())?;
     let stored = fs::read(rt, format!(in heap; "{name}.page")?.as_str())?;
     let notice = Notice::new(heap, sheet.as_slice())?;
-    let page = notice.text.as_slice();
-    if page != stored.as_slice() {
+    if notice.text != stored {
         println!(rt; "{name}: ANOTHER PAGE")?;
         return Ok(());
     }
-    let line = std::str::from_utf8(page)?.lines().next().unwrap_or("");
+    let line = std::str::from_utf8(notice.text.as_slice())?
+        .lines()
+        .next()
+        .unwrap_or_default();
     println!(rt; "{name}: {line}")?;
     Ok(())
 }
