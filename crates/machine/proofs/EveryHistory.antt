@@ -4,7 +4,7 @@ use Rattle.machine.proofs.DeadlinesMet.{deadlines_met}
 use Rattle.machine.proofs.ShareKept.{share_kept}
 use Rattle.machine.proofs.SectionsApart.{sections_apart}
 use Rattle.machine.proofs.NeverFull.{never_full}
-use Rattle.sheet.proofs.EachPairOneJob.{each_pair_one_job}
+use Rattle.machine.proofs.EachPairOneJob.{each_pair_one_job}
 use Rattle.machine.proofs.WithinBudget.{within_budget}
 
 pub promises_stand : PromisesStand

@@ -1,39 +1,33 @@
 -- The page: the verdict, the ground of a refusal, and the records with what each takes of a cycle.
 use Rattle.std.specs.Prelude.{ℕ, ◌+◌, List, [], ◌∷◌, ◌++◌, Some, None, Ok, Err, codes, decimal, Option, Result}
 use Rattle.sheet.specs.declared.fault.Diagnosis.{Diagnosis}
-use Rattle.sheet.specs.declared.fault.Layer.{Layer}
-use Rattle.sheet.specs.declared.fault.Layer.TheVariants.{Bytes as OfBytes, Record as OfRecord, Admission as OfAdmission}
 use Rattle.sheet.specs.declared.fault.RecordFault.{RecordFault}
-use Rattle.sheet.specs.Entries.{Entry, poll, lane, name_of}
+use Rattle.sheet.specs.Kinds.{kind_name}
+use Rattle.sheet.specs.Grounds.{diagnosis_text}
+use Rattle.sheet.specs.Entries.{Entry, poll, lane, kind_of, name_of}
 use Rattle.sheet.specs.Reading.{read_sheet}
 use Rattle.admission.specs.declared.fault.AdmissionFault.{AdmissionFault}
 use Rattle.admission.specs.declared.fault.AdmissionFault.TheVariants.{Record, Cycle, Load}
 use Rattle.admission.specs.Faults.{admission_diagnosis}
+use Rattle.admission.specs.Grounds.{ground_of}
 use Rattle.admission.specs.Verdict.{length_of, share_of, slots_of, admit_sheet}
 use Rattle.notice.specs.Columns.{at_left, at_right}
-use Rattle.notice.specs.Grounds.{ground_of}
 
 abbrev pub line_end : List ℕ
 line_end = 10 ∷ []
 
 -- THE VERDICT
 
-abbrev pub layer_name : Layer → List ℕ
-layer_name OfBytes = codes "bytes"
-layer_name OfRecord = codes "record"
-layer_name OfAdmission = codes "admission"
-
 abbrev pub admitted_line : ℕ → ℕ → List ℕ
 admitted_line load cycle = codes "admitted " ++ (decimal load ++ (codes " of " ++ (decimal cycle ++ line_end)))
 
 abbrev pub refused_line : Diagnosis → List ℕ
-refused_line told =
-    codes "refused " ++ (decimal told.number ++ (codes " at byte " ++ (decimal told.byte ++ (codes " (" ++ (layer_name told.layer ++ (codes ")" ++ line_end))))))
+refused_line told = codes "refused " ++ (diagnosis_text told ++ line_end)
 
 -- the first line, and the ground of a refusal
 abbrev pub verdict_lines : Result (ℕ × ℕ) AdmissionFault → List ℕ
 verdict_lines (Ok pair) = admitted_line pair.0 pair.1
-verdict_lines (Err fault) = refused_line (admission_diagnosis fault) ++ ground_of fault ++ line_end
+verdict_lines (Err fault) = refused_line (admission_diagnosis fault) ++ (ground_of fault ++ line_end)
 
 -- THE RECORDS
 
@@ -45,8 +39,7 @@ known_cycle (Err (Cycle at)) = None
 known_cycle (Err (Load load cycle)) = Some cycle
 
 abbrev pub kind_text : Entry → List ℕ
-kind_text (poll name phase period budget at) = codes "poll"
-kind_text (lane name span quota at) = codes "lane"
+kind_text entry = kind_name (kind_of entry)
 
 -- a lane has no phase
 abbrev pub phase_text : Entry → List ℕ

@@ -8,7 +8,6 @@ ghost use Rattle.notice.specs.Pages.{known_cycle, page_of};
 use admission::{AdmissionFault, Table};
 use std::alloc::{AllocError, Global};
 
-mod ground;
 mod line;
 mod records;
 mod verdict;

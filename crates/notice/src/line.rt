@@ -3,20 +3,11 @@ ghost use Rattle.std.specs.Prelude.{◌≡◌, IfOk, string_bytes};
 ghost use Rattle.sheet.specs.Entries.{seen};
 ghost use Rattle.admission.specs.Verdict.{slots_of};
 ghost use Rattle.notice.specs.Columns.{at_left, at_right};
-ghost use Rattle.notice.specs.Pages.{kind_text, phase_text, slots_text, entry_line};
+ghost use Rattle.notice.specs.Pages.{phase_text, slots_text, entry_line};
 
 use admission::{length_of, share_of};
 use sheet::Record;
 use std::alloc::{AllocError, Global};
-
-fn kind_text(record: Record<'_>) -> &'static str
-    ensures value { result.now ≡ kind_text (seen «record».entry) }
-{
-    match record {
-        Record::Poll { .. } => "poll",
-        Record::Lane { .. } => "lane",
-    }
-}
 
 // A name, filled up with spaces to the 12 bytes of the longest.
 fn name_column(heap: Global, name: &[u8]) -> Result<Vec<u8>, AllocError>
@@ -70,7 +61,7 @@ pub(crate) fn entry_line(
 ) -> Result<Vec<u8>, AllocError>
     ensures bytes { IfOk result (λ line. line.items ≡ entry_line cycle owner (seen «record».entry)) }
 {
-    let kind = kind_text(record);
+    let kind = record.kind();
     let mut line = format!(in heap; "{kind}{owner:>7}  ")?.into_bytes();
     let name = name_column(heap, record.name())?;
     line.extend_from_slice(name.as_slice())?;

@@ -1,12 +1,12 @@
 // The records of a sheet, a line for each.
-ghost use Rattle.std.specs.Prelude.{◌≡◌, ◌+◌, ◌^◌, ◌<◌, ◌≤◌, map, length, IfOk};
+ghost use Rattle.std.specs.Prelude.{◌≡◌, ◌+◌, ◌^◌, ◌<◌, IfOk};
 ghost use Rattle.sheet.specs.Entries.{seen};
-ghost use Rattle.sheet.specs.Limits.{most_polls, most_lanes};
+ghost use Rattle.sheet.specs.Held.{held};
 ghost use Rattle.sheet.specs.Reading.{read_sheet};
 ghost use Rattle.notice.specs.Pages.{owner_of, poll_after, lane_after, entry_lines, record_lines};
 
 use crate::line::entry_line;
-use sheet::{MOST_RECORDS, NO_RECORD, Record};
+use sheet::{Record, Records};
 use std::alloc::{AllocError, Global};
 
 // The owner numbers of the next poll and of the next lane.
@@ -43,18 +43,17 @@ impl Owners {
 // A line for each record. Polls have the owner numbers from 0 on, lanes those from 32 on.
 fn entry_lines(
     heap: Global,
-    records: &[Record<'_>],
+    records: &Records<'_>,
     cycle: Option<u64>,
 ) -> Result<Vec<u8>, AllocError>
-    requires few { length records.now ≤ most_polls + most_lanes }
-    ensures bytes { IfOk result (λ lines. lines.items ≡ entry_lines cycle 0 32 (map seen records.now)) }
+    ensures bytes { IfOk result (λ lines. lines.items ≡ entry_lines cycle 0 32 (held records.now)) }
 {
     let mut lines = Vec::new(heap);
     let mut owners = Owners {
         next_poll: 0,
         next_lane: 32,
     };
-    for record in records {
+    for record in records.as_slice() {
         let owner = owners.next_for(*record);
         let line = entry_line(heap, *record, owner, cycle)?;
         lines.extend_from_slice(line.as_slice())?;
@@ -71,14 +70,14 @@ pub(crate) fn record_lines(
     ensures bytes { IfOk result (λ table. table.items ≡ record_lines cycle (read_sheet sheet.now)) }
 {
     let mut table = Vec::new(heap);
-    let mut records = [NO_RECORD; MOST_RECORDS];
-    let Ok(count) = sheet::read(sheet, &mut records) else {
+    let mut records = Records::new();
+    if sheet::read(sheet, &mut records).is_err() {
         return Ok(table);
-    };
+    }
     table.extend_from_slice(
         b"\nkind  owner  name          phase  period/span  budget/quota  slots in one cycle\n",
     )?;
-    let lines = entry_lines(heap, &records[0..count], cycle)?;
+    let lines = entry_lines(heap, &records, cycle)?;
     table.extend_from_slice(lines.as_slice())?;
     Ok(table)
 }
