@@ -18,6 +18,12 @@ drop_one_more : {X : Type 0} (xs ys : List X) (n m : ℕ) → m ≡ n + 1 → dr
 drop_one_more xs ys n m e h = ap (λ k. drop k xs) e ∙ sym (drop-drop 1 n xs) ∙ ap (drop 1) h ∙ drop-drop 1 n ys ∙ sym (ap (λ k. drop k ys) e)
 
 module _ {X : Type 0} (before : X → X → Bool) where
+  -- an empty pile has no first to leave
+  pub empty_bags : (xs ys : List X) (n : ℕ) → n ≡ 0 → bag_of before ys n ≡ without_first (bag_of before xs n)
+  empty_bags xs ys n none =
+      let empty : (zs : List X) → bag_of before zs n ≡ [] = λ zs. ap (bag_of before zs) none ∙ sorted_none before in
+      empty ys ∙ sym (ap without_first (empty xs))
+
   module _ (o : Total before) where
     -- the bag of a pile that is not empty
     pub bag_first : (xs : List X) (n : ℕ) (d : X) → 0 < n → Piled before xs n → bag_of before xs n ≡ get_or xs 0 d ∷ sorted before (without_first (take n xs))

@@ -1,7 +1,7 @@
 // The ordered pile over memory that a host lends. It holds no more than the area and the count, and hands the area to the
 // functions of `area`. Every pile holds its bag: `piled`.
-ghost use Rattle.std.specs.Prelude.{◌≡◌, ◌≤◌, take, MatchBool, MatchResult};
-ghost use Rattle.pile.specs.Sorted.{first_of};
+ghost use Rattle.std.specs.Prelude.{◌≡◌, ◌≤◌, take, IsTrue, MatchBool, MatchResult};
+ghost use Rattle.pile.specs.Sorted.{insert, first_of, without_first};
 ghost use Rattle.pile.specs.Piles.{places_of, bag_of, Piled, Put, Dropped, Replaced};
 
 use super::area;
@@ -56,6 +56,7 @@ impl<'a, T: Ranked> Pile<'a, T> {
 
     // Removes the first; false, and nothing done, where there is none.
     pub fn drop_first(&mut self) -> bool
+        ensures bag { bag_of T.Ranked.before self.new.area.now self.new.count ≡ without_first (bag_of T.Ranked.before self.old.area.now self.old.count) }
         ensures drops { MatchBool result (Dropped T.Ranked.before self.old.area.now self.old.count self.new.area.now self.new.count) ((self.old.count ≡ 0) × (self.new ≡ self.old)) }
         ensures lender { self.new.area.ghost_name ≡ self.old.area.ghost_name }
     {
@@ -68,6 +69,7 @@ impl<'a, T: Ranked> Pile<'a, T> {
 
     // Puts an element in the place of the first; false, and nothing done, where there is none.
     pub fn replace_first(&mut self, element: T) -> bool
+        ensures bag { IsTrue result → bag_of T.Ranked.before self.new.area.now self.new.count ≡ insert T.Ranked.before element (without_first (bag_of T.Ranked.before self.old.area.now self.old.count)) }
         ensures replaces { MatchBool result (Replaced T.Ranked.before self.old.area.now self.old.count element self.new.area.now) ((self.old.count ≡ 0) × (self.new ≡ self.old)) }
         ensures count { self.new.count ≡ self.old.count }
         ensures lender { self.new.area.ghost_name ≡ self.old.area.ghost_name }

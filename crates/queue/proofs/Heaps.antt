@@ -1,5 +1,5 @@
 -- What the calls of a heap of jobs do to its bag, from what they do to its pile.
-use Rattle.std.proofs.Common.{◌≡◌, ℕ, ◌<◌, ◌≤◌, min, Bool, true, false, List, [], ◌∷◌, length, take, Some, Ok, Err, MatchBool, Result, sym, refl, ap, ◌∙◌, arith, MatchResult}
+use Rattle.std.proofs.Common.{◌≡◌, ℕ, ◌<◌, ◌≤◌, min, Bool, true, false, List, [], ◌∷◌, length, take, Some, Ok, Err, IsTrue, MatchBool, Result, sym, refl, ap, ◌∙◌, arith, MatchResult}
 use Rattle.pile.specs.declared.pile.Pile.{Pile}
 use Rattle.pile.specs.declared.refusal.PutRefusal.{PutRefusal}
 use Rattle.pile.specs.Sorted.{sorted, first_of, without_first}
@@ -46,10 +46,6 @@ module _ (heap : Heap) (after : Pile Job (record { before = sooner })) where
   drop_value true h = let n = heap_count heap in let s = h.some in some_job (heap_bag heap) (omega arith)
   drop_value false h = sym (ap is_some_job (nothing h.0))
 
-  pub drop_bag : (r : Bool) → Drops r → bag_in after ≡ without_first (heap_bag heap)
-  drop_bag true h = h.bag heap.pile.piled
-  drop_bag false h = ap bag_in h.1 ∙ nothing h.0 ∙ sym (ap without_first (nothing h.0))
-
   pub drop_places : (r : Bool) → Drops r → places_of after.area.now ≡ heap_places heap
   drop_places true h = ap (λ n. min n 65535) h.kept
   drop_places false h = ap (λ (p : Pile Job (record { before = sooner })). places_of p.area.now) h.1
@@ -69,9 +65,9 @@ module _ (heap : Heap) (after : Pile Job (record { before = sooner })) where
     replace_places false h = ap (λ (p : Pile Job (record { before = sooner })). places_of p.area.now) h.1
 
   -- the first job, with a slot less, in its own place
-  pub spend_bag : (r : Bool) (job : Job) → Some job ≡ first_of (heap_bag heap) → 1 < job.left → after.count ≡ heap.pile.count → Replaces (lowered job) r → bag_in after ≡ spent (heap_bag heap)
-  spend_bag false job e more same h = absurd (let q = e ∙ ap first_of (nothing h.0) in let z : ◌≡◌ {A = ℕ} 0 1 = cc in omega arith)
-  spend_bag true job e more same h = go (heap_bag heap) refl e
+  pub spend_bag : (r : Bool) (job : Job) → Some job ≡ first_of (heap_bag heap) → 1 < job.left → (IsTrue r → bag_in after ≡ put_job (lowered job) (without_first (heap_bag heap))) → Replaces (lowered job) r → bag_in after ≡ spent (heap_bag heap)
+  spend_bag false job e more replaced h = absurd (let q = e ∙ ap first_of (nothing h.0) in let z : ◌≡◌ {A = ℕ} 0 1 = cc in omega arith)
+  spend_bag true job e more replaced h = go (heap_bag heap) refl e
     where
       ordered : sorted sooner (heap_bag heap) ≡ heap_bag heap
       ordered = sorted_sorted sooner sooner_total (take heap.pile.count heap.pile.area.now)
@@ -80,11 +76,11 @@ module _ (heap : Heap) (after : Pile Job (record { before = sooner })) where
       go [] q f = absurd (let z : ◌≡◌ {A = ℕ} 0 1 = cc in omega arith)
       go (first ∷ jobs) q f =
           let is : heap_bag heap ≡ job ∷ jobs = q ∙ ap (λ x. x ∷ jobs) (sym (some_inj job first f)) in
-          ap (λ n. bag_of sooner after.area.now n) same ∙ h.bag heap.pile.piled ∙ ap (λ b. put_job (lowered job) (without_first b)) is
+          replaced refl ∙ ap (λ b. put_job (lowered job) (without_first b)) is
           ∙ insert_sooner sooner sooner_total (lowered job) job jobs (lowered_sooner job more) (ap (sorted sooner) (sym is) ∙ ordered ∙ is)
           ∙ spent_one (heap_bag heap) job jobs is more
 
 -- what each call of a heap needs
 pub ruleset heap_spends = (replace_value, replace_places, spend_bag)
 
-pub ruleset heap_drops = (drop_value, drop_bag, drop_places)
+pub ruleset heap_drops = (drop_value, drop_places)
