@@ -1,3 +1,4 @@
+-- Each turn swaps the hole with its least child; from the bottom `element` is lifted.
 use Rattle.std.proofs.Common.{◌≡◌, ℕ, ◌+◌, ◌-◌, ◌<◌, ◌≤◌, length, get_or, ap, ◌∙◌, arith}
 use Rattle.std.proofs.lemmas.List.{get_or_read}
 use Rattle.pile.proofs.Holes.{sinking_steps, sinking_ends}

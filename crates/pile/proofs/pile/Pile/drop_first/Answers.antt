@@ -1,3 +1,4 @@
+-- A pile without a first is empty, and stays as it was.
 use Rattle.pile.proofs.Calls.{empty_bags}
 use Rattle.pile.proofs.SamePile.{no_first, same_pile}
 use Rattle.pile.proofs.pile.Pile.drop_first.Goals as goal

@@ -1,3 +1,4 @@
+-- A refused put leaves the area, and so the pile, as it was.
 use Rattle.std.proofs.lemmas.Result.{MatchResult-from_err}
 use Rattle.pile.proofs.SamePile.{same_pile}
 use Rattle.pile.proofs.pile.Pile.put.Goals as goal

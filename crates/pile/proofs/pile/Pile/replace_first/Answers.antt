@@ -1,3 +1,4 @@
+-- A pile without a first is empty, and stays as it was.
 use Rattle.pile.proofs.SamePile.{or_nothing_done}
 use Rattle.pile.proofs.pile.Pile.replace_first.Goals as goal
 

@@ -1,3 +1,4 @@
+-- In a falling row the jobs that run no sooner stand first, so the job belongs behind them.
 use Rattle.std.proofs.Common.{◌≤◌, length-take-le, arith, rules}
 use Rattle.std.proofs.lemmas.List.Sorted.{IsPartitionPoint-from_clause}
 use Rattle.queue.specs.Jobs.{sooner}
