@@ -1,7 +1,7 @@
 // Numbers that look random and are the same in every run, for rehearsals. The period is 2 to the power of 64.
 #![tactic(auto)]
 
-ghost use Rattle.std.specs.Prelude.{◌≡◌, cond, ◌==◌, ◌%◌};
+ghost use Rattle.std.specs.Prelude.{◌≡◌, ◌==◌, ◌%◌, if◌then◌else◌};
 ghost use Rattle.dice.specs.Rolling.{next_state, face_of};
 
 #[derive(Clone, Copy)]
@@ -31,7 +31,7 @@ impl Dice {
     // The next number, brought below a bound; 0 where the bound is 0.
     pub fn below(&mut self, bound: u32) -> u32
         ensures state { self.new.state ≡ next_state self.old.state }
-        ensures value { result ≡ cond (bound == 0) 0 (face_of (next_state self.old.state) % bound) }
+        ensures value { result ≡ if bound == 0 then 0 else face_of (next_state self.old.state) % bound }
     {
         let face = self.roll();
         if bound == 0 { 0 } else { face % bound }

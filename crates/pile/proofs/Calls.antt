@@ -1,6 +1,5 @@
 -- What the calls of a pile do to its bag.
-use Rattle.std.proofs.Common.{◌≡◌, ℕ, zero, suc, ◌+◌, ◌<◌, ◌≤◌, Bool, false, eqb, ◌⊎◌, List, [], ◌∷◌, length, get_or, take, drop, set, Some, None, Option, sym, refl, ap, ◌∙◌, inl, inr, add-one, arith, length-set, drop-drop, drop-set-lt}
-use Rattle.std.proofs.lemmas.Bool.Decides.{nat_tests}
+use Rattle.std.proofs.Common.{◌≡◌, ℕ, zero, suc, ◌+◌, ◌<◌, ◌≤◌, Bool, false, List, [], ◌∷◌, length, get_or, take, drop, set, sym, refl, ap, ◌∙◌, add-one, arith, length-set, drop-drop, drop-set-lt}
 use Rattle.std.proofs.lemmas.List.{take_more_set}
 use Rattle.pile.specs.Order.{Total}
 use Rattle.pile.specs.Sorted.{insert, sorted, first_of, without_first}
@@ -9,22 +8,6 @@ use Rattle.pile.specs.Piles.{places_of, bag_of, Piled, Put, Dropped, Replaced}
 use Rattle.pile.proofs.Inserting.{insert_none, sorted_none, sorted_cons}
 use Rattle.pile.proofs.Sorting.{sorted_push}
 use Rattle.pile.proofs.Heaping.{rise_begins, hollow_first, heap_first, rest_of_heap, heap_lower}
-
-first_taken : {X : Type 0} (xs : List X) (n : ℕ) (d : X) → 0 < n → 0 < length xs → Some (get_or xs 0 d) ≡ first_of (take n xs)
-first_taken xs zero d z l = absurd (omega arith)
-first_taken [] (suc n) d z l = absurd (omega arith)
-first_taken (x ∷ xs) (suc n) d z l = refl
-
--- what stands first in an area that is not empty
-pub first_is : {X : Type 0} (x : X) (xs : List X) (n : ℕ) → x ≡ get_or xs 0 x → (n ≡ 0 → ⊥) → false ≡ eqb (length xs) 0 → Some x ≡ first_of (take n xs)
-first_is x xs n e z l = ap Some e ∙ first_taken xs n x (omega arith) (grind (arith, nat_tests))
-
--- nothing is taken by a count of 0, or of an empty area
-pub none_taken : {X : Type 0} (xs : List X) (n : ℕ) → (n ≡ 0) ⊎ (length xs ≡ 0) → take n xs ≡ []
-none_taken xs n (inl e) = ap (λ k. take k xs) e
-none_taken [] zero (inr e) = refl
-none_taken [] (suc n) (inr e) = refl
-none_taken (x ∷ xs) n (inr e) = absurd (omega arith)
 
 set_first : {X : Type 0} (xs : List X) (n : ℕ) (x : X) → 0 < n → n ≤ length xs → take n (set xs 0 x) ≡ x ∷ without_first (take n xs)
 set_first xs zero x z l = absurd (omega arith)
@@ -35,17 +18,22 @@ drop_one_more : {X : Type 0} (xs ys : List X) (n m : ℕ) → m ≡ n + 1 → dr
 drop_one_more xs ys n m e h = ap (λ k. drop k xs) e ∙ sym (drop-drop 1 n xs) ∙ ap (drop 1) h ∙ drop-drop 1 n ys ∙ sym (ap (λ k. drop k ys) e)
 
 module _ {X : Type 0} (before : X → X → Bool) where
-  -- an empty area or an empty pile has no first
-  pub first_of_none : (xs : List X) (n : ℕ) → take n xs ≡ [] → ◌≡◌ {A = Option X} None (first_of (take n xs)) × (◌≡◌ {A = Option X} None (first_of (bag_of before xs n)))
-  first_of_none xs n e = (sym (ap first_of e), sym (ap first_of (ap (sorted before) e ∙ sorted_none before)))
+  -- an empty pile has no first to leave
+  pub empty_bags : (xs ys : List X) (n : ℕ) → n ≡ 0 → bag_of before ys n ≡ without_first (bag_of before xs n)
+  empty_bags xs ys n none =
+      let empty : (zs : List X) → bag_of before zs n ≡ [] = λ zs. ap (bag_of before zs) none ∙ sorted_none before in
+      empty ys ∙ sym (ap without_first (empty xs))
 
   module _ (o : Total before) where
     -- the bag of a pile that is not empty
     pub bag_first : (xs : List X) (n : ℕ) (d : X) → 0 < n → Piled before xs n → bag_of before xs n ≡ get_or xs 0 d ∷ sorted before (without_first (take n xs))
     bag_first xs n d z p = let w = p.within in heap_first before o xs n d p.heaped z (omega arith)
 
-    pub first_is_least : (x : X) (xs : List X) (n : ℕ) → x ≡ get_or xs 0 x → (n ≡ 0 → ⊥) → Piled before xs n → Some x ≡ first_of (bag_of before xs n)
-    first_is_least x xs n e z p = ap Some e ∙ sym (ap first_of (bag_first xs n x (omega arith) p))
+    -- the first of its elements is the least
+    pub first_is_least : (xs : List X) (n : ℕ) → Piled before xs n → first_of (take n xs) ≡ first_of (bag_of before xs n)
+    first_is_least xs zero p = sym (ap first_of (sorted_none before))
+    first_is_least [] (suc n) p = sym (ap first_of (sorted_none before))
+    first_is_least (x ∷ xs) (suc n) p = sym (ap first_of (bag_first (x ∷ xs) (suc n) x (omega arith) p))
 
     pub puts : (xs ys : List X) (n : ℕ) (x : X) → n < places_of xs → length ys ≡ length xs → Lifted before xs n x ys → Put before xs n x ys (n + 1)
     puts xs ys n x free len up =

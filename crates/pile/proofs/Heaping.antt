@@ -5,9 +5,8 @@ use Rattle.std.proofs.lemmas.Bool.{cases_eq}
 use Rattle.pile.specs.Order.{Total}
 use Rattle.pile.specs.Sorted.{sorted, without_first}
 use Rattle.pile.specs.Heaps.{Heaped, Rising, Hollow}
-use Rattle.pile.specs.Sifting.{LeastChild}
 use Rattle.pile.proofs.Inserting.{sorted_cons}
-use Rattle.pile.proofs.Sorting.{Front, front_each, sorted_first, sorted_push, never, less, not_before}
+use Rattle.pile.proofs.Sorting.{Front, front_each, sorted_first, sorted_push, less, not_before}
 
 -- what a swap says of the places
 abbrev pub Swapped : {X : Type 0} → List X → List X → ℕ → ℕ → Type 0
@@ -104,24 +103,6 @@ module _ {X : Type 0} (before : X → X → Bool) where
       )
 
   module _ (o : Total before) where
-    itself : (xs : List X) (k c : ℕ) (d : X) → k ≡ c → before (get_or xs k d) (get_or xs c d) ≡ false
-    itself xs k c d e = by _ _ _ _ (ap (λ m. get_or xs m d) e) refl (never before o (get_or xs c d))
-
-    -- of two children the left one, if the right one does not come before it, and else the right one
-    pub least_left : (xs : List X) (i : ℕ) → ((d : X) → before (get_or xs (i + i + 2) d) (get_or xs (i + i + 1) d) ≡ false) → LeastChild before xs i (i + i + 1)
-    least_left xs i t = record {
-      from = omega arith;
-      to = omega arith;
-      least = λ k d a b. ⊎_elim (itself xs k (i + i + 1) d) (λ u. let f : k ≡ i + i + 2 = omega arith in by _ _ _ _ (ap (λ m. get_or xs m d) f) refl (t d)) (cases_eq k (i + i + 1));
-    }
-
-    pub least_right : (xs : List X) (i : ℕ) → ((d : X) → before (get_or xs (i + i + 2) d) (get_or xs (i + i + 1) d) ≡ true) → LeastChild before xs i (i + i + 2)
-    least_right xs i t = record {
-      from = omega arith;
-      to = omega arith;
-      least = λ k d a b. ⊎_elim (itself xs k (i + i + 2) d) (λ u. let f : k ≡ i + i + 1 = omega arith in by _ _ _ _ (ap (λ m. get_or xs m d) f) refl (o.one_way _ _ (t d))) (cases_eq k (i + i + 2));
-    }
-
     -- THE FIRST
 
     top_within : (xs : List X) (n : ℕ) (d : X) → Heaped before xs n → (fuel k : ℕ) → k ≤ fuel → k + 1 < n → before (get_or xs (k + 1) d) (get_or xs 0 d) ≡ false
@@ -164,9 +145,3 @@ module _ {X : Type 0} (before : X → X → Bool) where
       (not_before before o _ _ _ (t d) (by _ _ _ _ refl (ap (λ m. get_or xs m d) (sym e)) (h k d l))))
       (λ u. by _ _ _ _ (get_or-set_other xs 0 (k + 1) v d (omega arith)) (get_or-set_other xs 0 (k / 2) v d u) (h k d l))
       (cases_eq (k / 2) 0)
-
--- what a write over the first leaves of the others
-pub without_first_set : {X : Type 0} (xs : List X) (n : ℕ) (v : X) → without_first (take n (set xs 0 v)) ≡ without_first (take n xs)
-without_first_set xs zero v = refl
-without_first_set [] (suc n) v = refl
-without_first_set (x ∷ xs) (suc n) v = refl

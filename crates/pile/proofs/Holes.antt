@@ -43,9 +43,6 @@ module _ {X : Type 0} (before : X → X → Bool) where
     pub past : (n : ℕ) → place < n → drop n area ≡ drop n old
     pub rising : (n : ℕ) → place < n → n ≤ length old → Rising before (set old place x) place n → Rising before (set area hole x) hole n
 
-  pub lifting_begins : (old : List X) (place : ℕ) (x : X) → Lifting old place x old place
-  lifting_begins old place x = record { low = omega arith; long = refl; same = λ n a b. refl; past = λ n a. refl; rising = λ n a b h. h }
-
   -- x does not come before what is above the hole
   pub lifting_ends : (old : List X) (place : ℕ) (x : X) (area : List X) (hole : ℕ) → place < length old →
       ((d : X) → 0 < hole → before x (get_or area ((hole - 1) / 2) d) ≡ false) → Lifting old place x area hole → Lifted before old place x (set area hole x)
@@ -87,9 +84,6 @@ module _ {X : Type 0} (before : X → X → Bool) where
     pub same : sorted before (take count (set area hole x)) ≡ sorted before (take count (set old 0 x))
     pub past : drop count area ≡ drop count old
     pub hollow : Hollow before old 0 count → Hollow before area hole count
-
-  pub sinking_begins : (old : List X) (count : ℕ) (x : X) → 0 < count → Sinking old count x old 0
-  sinking_begins old count x z = record { within = z; long = refl; same = refl; past = refl; hollow = λ h. h }
 
   -- v, the least child of the hole, moves up into it
   pub sinking_steps : Total before → (old : List X) (count : ℕ) (x : X) (area : List X) (hole child : ℕ) (v : X) → count ≤ length old → hole + hole + 1 ≤ child → child ≤ hole + hole + 2 → child < count →

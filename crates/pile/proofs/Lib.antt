@@ -4,3 +4,4 @@ pub mod Ordering
 pub mod Heaping
 pub mod Holes
 pub mod Calls
+pub mod SamePile

@@ -1,5 +1,5 @@
 -- What a total order is: the law that every kind of element in a pile brings with it.
-use Rattle.std.specs.Prelude.{◌≡◌, ℕ, Bool, true, false, cond, nat_lt}
+use Rattle.std.specs.Prelude.{◌≡◌, ℕ, Bool, true, false, if◌then◌else◌, nat_lt}
 
 -- `before x y` says that x comes strictly before y
 pub record Total {X : Type 0} (before : X → X → Bool) : Type 0 where
@@ -16,4 +16,4 @@ by key x y = nat_lt (key x) (key y)
 
 -- the order by a number, and where that is the same for both by another order
 abbrev pub by_then : {X : Type 0} → (X → ℕ) → (X → X → Bool) → X → X → Bool
-by_then key next x y = cond (nat_lt (key x) (key y)) true (cond (nat_lt (key y) (key x)) false (next x y))
+by_then key next x y = if nat_lt (key x) (key y) then true else if nat_lt (key y) (key x) then false else next x y

@@ -18,14 +18,15 @@ pub fn places<T>(area: &[T]) -> usize
 }
 
 // The least of the bag.
+#[tactic(auto, using(crate::proofs::Calls::first_is_least))]
 pub fn first<T: Ranked>(area: &[T], count: usize) -> Option<T>
     ensures value { result ≡ first_of (take count area.now) }
     ensures least { Piled T.Ranked.before area.now count → result ≡ first_of (bag_of T.Ranked.before area.now count) }
 {
-    if count == 0 || area.is_empty() {
+    if count == 0 {
         return None;
     }
-    Some(area[0])
+    area.first().copied()
 }
 
 // Puts `element`, and says how many there are then.

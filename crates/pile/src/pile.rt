@@ -1,7 +1,7 @@
 // The ordered pile over memory that a host lends. It holds no more than the area and the count, and hands the area to the
-// functions of `area`. Every pile that `new` makes holds its bag (`Piled`), and every call keeps that.
-ghost use Rattle.std.specs.Prelude.{◌≡◌, ◌<◌, ◌≤◌, ◌⊎◌, length, take, MatchBool, MatchResult};
-ghost use Rattle.pile.specs.Sorted.{first_of};
+// functions of `area`. Every pile holds its bag: `piled`.
+ghost use Rattle.std.specs.Prelude.{◌≡◌, ◌≤◌, take, IsTrue, MatchBool, MatchResult};
+ghost use Rattle.pile.specs.Sorted.{insert, first_of, without_first};
 ghost use Rattle.pile.specs.Piles.{places_of, bag_of, Piled, Put, Dropped, Replaced};
 
 use super::area;
@@ -9,16 +9,16 @@ use super::order::Ranked;
 use super::refusal::PutRefusal;
 
 #[derive(Drop)]
-pub struct Pile<'a, T> {
+pub struct Pile<'a, T: Ranked> {
     area: &'a mut [T],
     count: usize,
+    pub ghost piled: { Piled T.Ranked.before area.now count },
 }
 
 impl<'a, T: Ranked> Pile<'a, T> {
     // An empty pile over the area, which is left as it was.
     pub fn new(area: &'a mut [T]) -> Pile<'a, T>
         ensures empty { result.count ≡ 0 }
-        ensures piled { Piled T.Ranked.before result.area.now result.count }
         ensures same { result.area.now ≡ area.old }
         ensures lender { result.area.ghost_name ≡ area.entry.ghost_name }
     {
@@ -34,14 +34,13 @@ impl<'a, T: Ranked> Pile<'a, T> {
     pub fn count(&self) -> usize
         ensures value { result ≡ self.now.count }
     {
-        let Pile { count, .. } = self;
-        *count
+        self.count
     }
 
     // The least of the bag; none exactly if the bag is empty.
     pub fn first(&self) -> Option<T>
         ensures value { result ≡ first_of (take self.now.count self.now.area.now) }
-        ensures least { Piled T.Ranked.before self.now.area.now self.now.count → result ≡ first_of (bag_of T.Ranked.before self.now.area.now self.now.count) }
+        ensures least { result ≡ first_of (bag_of T.Ranked.before self.now.area.now self.now.count) }
     {
         area::first(self.area, self.count)
     }
@@ -51,33 +50,30 @@ impl<'a, T: Ranked> Pile<'a, T> {
         ensures puts { MatchResult result (λ _. Put T.Ranked.before self.old.area.now self.old.count element self.new.area.now self.new.count) (λ _. (places_of self.old.area.now ≤ self.old.count) × (self.new ≡ self.old)) }
         ensures lender { self.new.area.ghost_name ≡ self.old.area.ghost_name }
     {
-        let count = self.count;
-        self.count = area::put(self.area, count, element)?;
+        self.count = area::put(self.area, self.count, element)?;
         Ok(())
     }
 
     // Removes the first; false, and nothing done, where there is none.
     pub fn drop_first(&mut self) -> bool
-        ensures drops { MatchBool result (Dropped T.Ranked.before self.old.area.now self.old.count self.new.area.now self.new.count) (((self.old.count ≡ 0) ⊎ (length self.old.area.now < self.old.count)) × (self.new ≡ self.old)) }
+        ensures bag { bag_of T.Ranked.before self.new.area.now self.new.count ≡ without_first (bag_of T.Ranked.before self.old.area.now self.old.count) }
+        ensures drops { MatchBool result (Dropped T.Ranked.before self.old.area.now self.old.count self.new.area.now self.new.count) ((self.old.count ≡ 0) × (self.new ≡ self.old)) }
         ensures lender { self.new.area.ghost_name ≡ self.old.area.ghost_name }
     {
-        let count = self.count;
-        match area::drop_first(self.area, count) {
-            Some(fallen) => {
-                self.count = fallen;
-                true
-            }
-            None => false,
-        }
+        let Some(fallen) = area::drop_first(self.area, self.count) else {
+            return false;
+        };
+        self.count = fallen;
+        true
     }
 
     // Puts an element in the place of the first; false, and nothing done, where there is none.
     pub fn replace_first(&mut self, element: T) -> bool
-        ensures replaces { MatchBool result (Replaced T.Ranked.before self.old.area.now self.old.count element self.new.area.now) (((self.old.count ≡ 0) ⊎ (length self.old.area.now < self.old.count)) × (self.new ≡ self.old)) }
+        ensures bag { IsTrue result → bag_of T.Ranked.before self.new.area.now self.new.count ≡ insert T.Ranked.before element (without_first (bag_of T.Ranked.before self.old.area.now self.old.count)) }
+        ensures replaces { MatchBool result (Replaced T.Ranked.before self.old.area.now self.old.count element self.new.area.now) ((self.old.count ≡ 0) × (self.new ≡ self.old)) }
         ensures count { self.new.count ≡ self.old.count }
         ensures lender { self.new.area.ghost_name ≡ self.old.area.ghost_name }
     {
-        let count = self.count;
-        area::replace_first(self.area, count, element)
+        area::replace_first(self.area, self.count, element)
     }
 }

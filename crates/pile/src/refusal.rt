@@ -2,18 +2,16 @@
 ghost use Rattle.std.specs.Prelude.{◌≡◌};
 ghost use Rattle.pile.specs.Piles.{put_number};
 
-#[derive(Clone, Copy)]
+#[derive(Clone, Copy, Debug, PartialEq, Eq)]
 pub enum PutRefusal {
     // no place is free
-    Full,
+    Full = 34,
 }
 
 impl PutRefusal {
     pub fn number(self) -> u8
         ensures value { result ≡ put_number self }
     {
-        match self {
-            PutRefusal::Full => 34,
-        }
+        self as u8
     }
 }

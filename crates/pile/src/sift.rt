@@ -41,7 +41,8 @@ fn least_child<T: Ranked>(area: &[T], hole: usize) -> usize
 // Puts `element` among the first `count`, of which the first is a hole: the hole sinks to the bottom, and `element` rises
 // from there, since what stands in for a first is seldom early.
 pub(crate) fn sink<T: Ranked>(area: &mut [T], count: usize, element: T)
-    requires { (0 < count) × (count ≤ length area.old) }
+    requires some { 0 < count }
+    requires within { count ≤ length area.old }
     ensures sinks { Sunk T.Ranked.before area.old count element area.new }
 {
     let mut hole = 0;

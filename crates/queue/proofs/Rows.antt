@@ -1,17 +1,26 @@
--- Rows in falling order: where an element belongs, what the moves of a hole leave, and what the last is.
-use Rattle.std.proofs.Common.{◌≡◌, ℕ, zero, suc, ◌+◌, ◌-◌, ◌<◌, ◌≤◌, Bool, true, false, List, ◌∷◌, length, get_or, take, drop, set, sym, refl, ap, ◌∙◌, ⊎_elim, arith, length-set, length-take-le, get_or-set_other, get_or-take, get_or-set_same, drop-set-lt}
-use Rattle.std.proofs.lemmas.List.{take_more, take_more_set, take-set, get_or_default}
-use Rattle.std.proofs.lemmas.Bool.{cases_eq, cases_lt}
+-- Rows in falling order: where an element belongs, what a row is once it stands there, and what the last is.
+use Rattle.std.proofs.Common.{◌≡◌, ℕ, zero, suc, ◌+◌, ◌-◌, ◌<◌, ◌≤◌, Bool, true, false, not, List, [], ◌∷◌, ◌++◌, length, get_or, take, drop, set, sym, refl, ap, ◌∙◌, ⊎_elim, arith, length-set, length-drop, length-take-le, append_assoc, get_or-set_other, get_or-take, get_or-set_same, drop-set-lt}
+use Rattle.std.specs.List.{copy_within, CopiedTo, SameBelow}
+use Rattle.std.specs.List.Sorted.{IsPartitionedBy, IsPartitionPoint}
+use Rattle.std.proofs.Math.Seq.{take-add, take-set-lt, set-append_seam}
+use Rattle.std.proofs.lemmas.List.{take_more, take-set, get_or_default}
+use Rattle.std.proofs.lemmas.List.Edits.{take-paste, drop-paste}
+use Rattle.std.proofs.lemmas.Bool.{cases_eq, cases_lt, not-true, not-false, not_from_false}
 use Rattle.pile.specs.Order.{Total}
-use Rattle.pile.specs.Sorted.{sorted}
+use Rattle.pile.specs.Sorted.{insert, sorted}
 use Rattle.pile.specs.Piles.{bag_of}
-use Rattle.pile.proofs.Sorting.{never, leads, less, not_before, sorted_push, front_each, front_sorted, insert_first}
-use Rattle.pile.proofs.Holes.{move_same}
-use Rattle.queue.specs.Falling.{Falling, Belongs, Inserted}
+use Rattle.pile.proofs.Inserting.{sorted_cons}
+use Rattle.pile.proofs.Sorting.{never, less, not_before, insert_comm, sorted_push, front_each, front_sorted, insert_first}
+use Rattle.queue.specs.Falling.{Falling, Inserted}
 
 module _ {X : Type 0} (before : X → X → Bool) where
   by : (a b x y : X) (r : Bool) → a ≡ x → b ≡ y → before x y ≡ r → before a b ≡ r
   by a b x y r p q h = (λ k. before (p k) (q k)) ∙ h
+
+  -- x belongs at `place`: what stands before the place comes no sooner than x, and the rest of the first n does
+  pub record Belongs (xs : List X) (n : ℕ) (x : X) (place : ℕ) : Type 0 where
+    pub later : (k : ℕ) (d : X) → k < place → before (get_or xs k d) x ≡ false
+    pub earlier : (k : ℕ) (d : X) → place ≤ k → k < n → before (get_or xs k d) x ≡ true
 
   module _ (o : Total before) where
     -- none comes before one behind it
@@ -24,124 +33,115 @@ module _ {X : Type 0} (before : X → X → Bool) where
     behind : (xs : List X) (n : ℕ) (d : X) → Falling before xs n → (k m : ℕ) → k ≤ m → m < n → before (get_or xs k d) (get_or xs m d) ≡ false
     behind xs n d h k m l b = let e : m ≡ k + (m - k) = omega arith in by _ _ _ _ false refl (ap (λ j. get_or xs j d) e) (far xs n d h (m - k) k (omega arith))
 
-    -- HALVING
+    -- WHERE AN ELEMENT BELONGS
 
-    -- what lies below `low` comes no sooner than x, and what lies from `high` on does
-    pub record Halving (xs : List X) (n : ℕ) (x : X) (low high : ℕ) : Type 0 where
-      pub ordered : low ≤ high
-      pub within : high ≤ n
-      pub later : Falling before xs n → (k : ℕ) (d : X) → k < low → before (get_or xs k d) x ≡ false
-      pub earlier : Falling before xs n → (k : ℕ) (d : X) → high ≤ k → k < n → before (get_or xs k d) x ≡ true
+    -- y comes no sooner than x
+    abbrev pub no_sooner : X → X → Bool
+    no_sooner x y = not (before y x)
 
-    pub halving_begins : (xs : List X) (n : ℕ) (x : X) → Halving xs n x 0 n
-    halving_begins xs n x = record { ordered = omega arith; within = omega arith; later = λ f k d l. absurd (omega arith); earlier = λ f k d l m. absurd (omega arith) }
+    -- those that come no sooner than x stand first
+    pub parted : (xs : List X) (n : ℕ) (x : X) → n ≤ length xs → Falling before xs n → IsPartitionedBy (no_sooner x) (take n xs)
+    parted xs n x l f i j d le lt later =
+        let len : length (take n xs) ≡ n = length-take-le n xs l in
+        let at_j : before (get_or xs j d) x ≡ false = by _ _ _ _ false (sym (get_or-take n xs j d (omega arith))) refl (not-true _ later) in
+        not_from_false _ (by _ _ _ _ false (get_or-take n xs i d (omega arith)) refl (not_before before o x _ _ at_j (behind xs n d f i j le (omega arith))))
 
-    pub halving_down : (xs : List X) (n : ℕ) (x : X) (low high middle : ℕ) → low ≤ middle → middle < high → ((d : X) → before (get_or xs middle d) x ≡ true) → Halving xs n x low high → Halving xs n x low middle
-    halving_down xs n x low high middle a b t h =
-        let w = h.within in
-        record { ordered = a; within = omega arith; later = h.later; earlier = λ f k d l m. leads before o x (get_or xs k d) (get_or xs middle d) (behind xs n d f middle k l m) (t d) }
-
-    pub halving_up : (xs : List X) (n : ℕ) (x : X) (low high middle : ℕ) → low ≤ middle → middle < high → ((d : X) → before (get_or xs middle d) x ≡ false) → Halving xs n x low high → Halving xs n x (middle + 1) high
-    halving_up xs n x low high middle a b t h =
-        let w = h.within in
-        record { ordered = omega arith; within = h.within; later = λ f k d l. not_before before o x (get_or xs middle d) (get_or xs k d) (t d) (behind xs n d f k middle (omega arith) (omega arith)); earlier = h.earlier }
-
-    pub halving_ends : (xs : List X) (n : ℕ) (x : X) (low high : ℕ) → high ≤ low → Halving xs n x low high → Falling before xs n → Belongs before xs n x low
-    halving_ends xs n x low high e h f = record { later = h.later f; earlier = λ k d l m. h.earlier f k d (omega arith) m }
+    -- so x belongs behind them
+    pub belongs : (xs : List X) (n : ℕ) (x : X) (place : ℕ) → n ≤ length xs → place ≤ n → IsPartitionPoint (λ y. no_sooner x y ≡ true) (λ y. no_sooner x y ≡ false) (take n xs) place → Belongs xs n x place
+    belongs xs n x place l low point =
+        let len : length (take n xs) ≡ n = length-take-le n xs l in
+        record {
+          later = λ k d a. by _ _ _ _ false (sym (get_or-take n xs k d (omega arith))) refl (not-true _ (point.0 k d (omega arith) a));
+          earlier = λ k d a b. by _ _ _ _ true (sym (get_or-take n xs k d b)) refl (not-false _ (point.1 k d a (omega arith)));
+        }
 
     -- MOVING UP
 
-    -- the hole has come down from `count`: what lay above it lies one higher
-    pub record Filing (old : List X) (count : ℕ) (x : X) (place : ℕ) (area : List X) (hole : ℕ) : Type 0 where
-      pub low : place ≤ hole
-      pub high : hole ≤ count
-      pub long : length area ≡ length old
-      pub same : sorted before (take (count + 1) (set area hole x)) ≡ sorted before (take (count + 1) (set old count x))
-      pub past : drop (count + 1) area ≡ drop (count + 1) old
-      pub below : (k : ℕ) (d : X) → k < hole → get_or area k d ≡ get_or old k d
-      pub above : (k : ℕ) (d : X) → hole ≤ k → k < count → get_or area (k + 1) d ≡ get_or old k d
+    -- wherever x stands in a list, its bag has it
+    sorted_middle : (xs : List X) (x : X) (ys : List X) → sorted before (xs ++ x ∷ ys) ≡ insert before x (sorted before (xs ++ ys))
+    sorted_middle [] x ys = sorted_cons before x ys
+    sorted_middle (y ∷ xs) x ys =
+        sorted_cons before y (xs ++ x ∷ ys) ∙ ap (insert before y) (sorted_middle xs x ys) ∙ insert_comm before o y x (sorted before (xs ++ ys)) ∙ sym (ap (insert before x) (sorted_cons before y (xs ++ ys)))
 
-    pub filing_begins : (old : List X) (count : ℕ) (x : X) (place : ℕ) → place ≤ count → Filing old count x place old count
-    filing_begins old count x place l = record { low = l; high = omega arith; long = refl; same = refl; past = refl; below = λ k d a. refl; above = λ k d a b. absurd (omega arith) }
+    -- what stood from `place` to `count` has moved up by one, and x is written at the place
+    module _ (xs ys : List X) (count place : ℕ) (x : X) (l : count < length xs) (low : place ≤ count) (moved : ys ≡ copy_within xs place count (place + 1)) where
+      higher : count + 1 ≡ place + 1 + (count - place)
+      higher = omega arith
 
-    pub filing_steps : (old : List X) (count : ℕ) (x : X) (place : ℕ) (area : List X) (hole : ℕ) (v : X) → count < length old → place < hole → ((d : X) → v ≡ get_or area (hole - 1) d) →
-        Filing old count x place area hole → Filing old count x place (set area hole v) (hole - 1)
-    filing_steps old count x place area hole v l z e h =
-        let high = h.high in
-        let long = h.long in
-        let in' : hole < length area = omega arith in
-        let from : hole - 1 < length area = omega arith in
-        let ne : hole ≡ hole - 1 → ⊥ = omega arith in
-        record {
-          low = omega arith;
-          high = omega arith;
-          long = length-set area hole v ∙ long;
-          same = move_same area hole (hole - 1) x v in' from ne e before o (count + 1) (omega arith) (omega arith) (omega arith) ∙ h.same;
-          past = drop-set-lt (count + 1) area hole v (omega arith) ∙ h.past;
-          below = λ k d a. get_or-set_other area hole k v d (omega arith) ∙ h.below k d (omega arith);
-          above = λ k d a b. ⊎_elim
-              (λ q. let r : k ≡ hole - 1 = omega arith in
-              ap (λ m. get_or (set area hole v) m d) q ∙ get_or-set_same area hole v d in' ∙ e d ∙ h.below (hole - 1) d (omega arith) ∙ ap (λ m. get_or old m d) (sym r))
-              (λ q. get_or-set_other area hole (k + 1) v d q ∙ h.above k d (omega arith) b)
-              (cases_eq (k + 1) hole);
-        }
+      moved_taken : take (count + 1) ys ≡ take place xs ++ get_or xs place x ∷ take (count - place) (drop place xs)
+      moved_taken =
+          let rest = length-drop place xs in
+          ap (take (count + 1)) moved ∙ ap (λ n. take n (copy_within xs place count (place + 1))) higher
+          ∙ take-paste xs (place + 1) (drop place xs) (count - place) (omega arith) (omega arith)
+          ∙ ap (λ front. front ++ take (count - place) (drop place xs)) (take_more xs place x (omega arith))
+          ∙ append_assoc (take place xs) (get_or xs place x ∷ []) (take (count - place) (drop place xs))
 
-    pub filing_ends : (old : List X) (count : ℕ) (x : X) (place : ℕ) (area : List X) (hole : ℕ) → count < length old → hole ≤ place → (Falling before old count → Belongs before old count x place) →
-        Filing old count x place area hole → Inserted before old count x (set area place x)
-    filing_ends old count x place area hole l done fits h =
-        let low = h.low in
-        let high = h.high in
-        let long = h.long in
-        let e : hole ≡ place = omega arith in
-        let in' : place < length area = omega arith in
-        let new = set area place x in
-        let at_place : (d : X) → get_or new place d ≡ x = λ d. get_or-set_same area place x d in' in
-        let at_below : (k : ℕ) (d : X) → k < place → get_or new k d ≡ get_or old k d = λ k d a. get_or-set_other area place k x d (omega arith) ∙ h.below k d (omega arith) in
-        let at_above : (k : ℕ) (d : X) → place ≤ k → k < count → get_or new (k + 1) d ≡ get_or old k d = λ k d a b. get_or-set_other area place (k + 1) x d (omega arith) ∙ h.above k d (omega arith) b in
-        record {
-          bag = ap (λ m. sorted before (take (count + 1) (set area m x))) (sym e) ∙ h.same ∙ ap (sorted before) (take_more_set old count x l) ∙ sorted_push before o (take count old) x;
-          past = drop-set-lt (count + 1) area place x (omega arith) ∙ h.past;
-          falling = λ f k d a. ⊎_elim
-              (λ u. ⊎_elim
-              (λ q. by _ _ _ _ false (at_below k d (omega arith)) (ap (λ m. get_or new m d) q ∙ at_place d) ((fits f).later k d (omega arith)))
-              (λ q. by _ _ _ _ false (at_below k d u) (at_below (k + 1) d (omega arith)) (f k d (omega arith)))
-              (cases_eq (k + 1) place))
-              (λ u. ⊎_elim
-              (λ q. by _ _ _ _ false (ap (λ m. get_or new m d) q ∙ at_place d) (at_above k d u (omega arith)) (o.one_way _ _ ((fits f).earlier k d u (omega arith))))
-              (λ q. let r : k ≡ k - 1 + 1 = omega arith in
-              by _ _ _ _ false (ap (λ m. get_or new m d) r ∙ at_above (k - 1) d (omega arith) (omega arith)) (at_above k d u (omega arith) ∙ ap (λ m. get_or old m d) r) (f (k - 1) d (omega arith)))
-              (cases_eq k place))
-              (cases_lt k place);
-        }
+      inserted_taken : take (count + 1) (set ys place x) ≡ take place xs ++ x ∷ take (count - place) (drop place xs)
+      inserted_taken =
+          let len : length (take place xs) ≡ place = length-take-le place xs (omega arith) in
+          take-set-lt (count + 1) ys place x (omega arith) ∙ ap (λ front. set front place x) moved_taken
+          ∙ ap (λ n. set (take place xs ++ get_or xs place x ∷ take (count - place) (drop place xs)) n x) (sym len)
+          ∙ set-append_seam (take place xs) (get_or xs place x) (take (count - place) (drop place xs)) x
 
-    -- THE LAST
+      inserted_bag : bag_of before (set ys place x) (count + 1) ≡ insert before x (bag_of before xs count)
+      inserted_bag =
+          let all : place + (count - place) ≡ count = omega arith in
+          ap (sorted before) inserted_taken ∙ sorted_middle (take place xs) x (take (count - place) (drop place xs))
+          ∙ ap (λ front. insert before x (sorted before front)) (sym (take-add place (count - place) xs) ∙ ap (λ n. take n xs) all)
+
+      inserted_past : drop (count + 1) (set ys place x) ≡ drop (count + 1) xs
+      inserted_past =
+          let rest = length-drop place xs in
+          drop-set-lt (count + 1) ys place x (omega arith) ∙ ap (drop (count + 1)) moved ∙ ap (λ n. drop n (copy_within xs place count (place + 1))) higher
+          ∙ drop-paste xs (place + 1) (drop place xs) (count - place) (omega arith) (omega arith) ∙ ap (λ n. drop n xs) (sym higher)
+
+      pub inserted : length ys ≡ length xs → CopiedTo xs ys place (place + 1) (count - place) → SameBelow xs ys (place + 1) → (Falling before xs count → Belongs xs count x place) → Inserted before xs count x (set ys place x)
+      inserted long above below fits =
+          let new = set ys place x in
+          let at_place : (d : X) → get_or new place d ≡ x = λ d. get_or-set_same ys place x d (omega arith) in
+          let at_below : (k : ℕ) (d : X) → k < place → get_or new k d ≡ get_or xs k d = λ k d a. get_or-set_other ys place k x d (omega arith) ∙ below k d (omega arith) in
+          let at_above : (k : ℕ) (d : X) → place ≤ k → k < count → get_or new (k + 1) d ≡ get_or xs k d = λ k d a b.
+          let from : place + (k + 1 - (place + 1)) ≡ k = omega arith in
+          get_or-set_other ys place (k + 1) x d (omega arith) ∙ above (k + 1) d (omega arith) (omega arith) ∙ ap (λ m. get_or xs m d) from in
+          record {
+            bag = inserted_bag;
+            past = inserted_past;
+            falling = λ f k d a. ⊎_elim
+                (λ u. ⊎_elim
+                (λ q. by _ _ _ _ false (at_below k d (omega arith)) (ap (λ m. get_or new m d) q ∙ at_place d) ((fits f).later k d (omega arith)))
+                (λ q. by _ _ _ _ false (at_below k d u) (at_below (k + 1) d (omega arith)) (f k d (omega arith)))
+                (cases_eq (k + 1) place))
+                (λ u. ⊎_elim
+                (λ q. by _ _ _ _ false (ap (λ m. get_or new m d) q ∙ at_place d) (at_above k d u (omega arith)) (o.one_way _ _ ((fits f).earlier k d u (omega arith))))
+                (λ q. let r : k ≡ k - 1 + 1 = omega arith in
+                by _ _ _ _ false (ap (λ m. get_or new m d) r ∙ at_above (k - 1) d (omega arith) (omega arith)) (at_above k d u (omega arith) ∙ ap (λ m. get_or xs m d) r) (f (k - 1) d (omega arith)))
+                (cases_eq k place))
+                (cases_lt k place);
+          }
+
+    -- THE LAST: of n + 1
 
     -- the last of a row is the first of its bag
-    pub row_first : (xs : List X) (n : ℕ) (d : X) → 0 < n → n ≤ length xs → Falling before xs n → bag_of before xs n ≡ get_or xs (n - 1) d ∷ bag_of before xs (n - 1)
-    row_first xs n d z l h =
-        let e : n ≡ n - 1 + 1 = omega arith in
-        let x = get_or xs (n - 1) d in
-        let len : length (take (n - 1) xs) ≡ n - 1 = length-take-le (n - 1) xs (omega arith) in
-        ap (λ m. sorted before (take m xs)) e
-        ∙ ap (sorted before) (take_more xs (n - 1) d (omega arith))
-        ∙ sorted_push before o (take (n - 1) xs) x
-        ∙ insert_first before x _ (front_sorted before x (take (n - 1) xs) (front_each before x (take (n - 1) xs) (λ k c a.
-        by _ _ _ _ false (get_or-take (n - 1) xs k c (omega arith)) (get_or_default xs (n - 1) d c (omega arith)) (behind xs n c h k (n - 1) (omega arith) (omega arith)))))
-
-    -- a row without its last
-    pub falling_less : (xs : List X) (n m : ℕ) → m ≤ n → Falling before xs n → Falling before xs m
-    falling_less xs n m l h = λ k d a. h k d (omega arith)
+    pub row_first : (xs : List X) (n : ℕ) (d : X) → n < length xs → Falling before xs (n + 1) → bag_of before xs (n + 1) ≡ get_or xs n d ∷ bag_of before xs n
+    row_first xs n d l h =
+        let x = get_or xs n d in
+        let len : length (take n xs) ≡ n = length-take-le n xs (omega arith) in
+        ap (sorted before) (take_more xs n d l)
+        ∙ sorted_push before o (take n xs) x
+        ∙ insert_first before x _ (front_sorted before x (take n xs) (front_each before x (take n xs) (λ k c a.
+        by _ _ _ _ false (get_or-take n xs k c (omega arith)) (get_or_default xs n d c l) (behind xs (n + 1) c h k n (omega arith) (omega arith)))))
 
     -- an element that comes before the last is written over it
-    pub falling_lower : (xs : List X) (n : ℕ) (v : X) → 0 < n → n ≤ length xs → ((d : X) → before v (get_or xs (n - 1) d) ≡ true) → Falling before xs n → Falling before (set xs (n - 1) v) n
-    falling_lower xs n v z l t h = λ k d a. ⊎_elim
-        (λ e. by _ _ _ _ false (get_or-set_other xs (n - 1) k v d (omega arith)) (ap (λ m. get_or (set xs (n - 1) v) m d) e ∙ get_or-set_same xs (n - 1) v d (omega arith))
-        (less before o _ _ _ (t d) (by _ _ _ _ false refl (ap (λ m. get_or xs m d) (sym e)) (h k d a))))
-        (λ u. by _ _ _ _ false (get_or-set_other xs (n - 1) k v d (omega arith)) (get_or-set_other xs (n - 1) (k + 1) v d u) (h k d a))
-        (cases_eq (k + 1) (n - 1))
+    module _ (xs : List X) (n : ℕ) (v : X) (l : n < length xs) (sooner : (d : X) → before v (get_or xs n d) ≡ true) (h : Falling before xs (n + 1)) where
+      pub falling_lower : Falling before (set xs n v) (n + 1)
+      falling_lower k d a = ⊎_elim
+          (λ e. by _ _ _ _ false (get_or-set_other xs n k v d (omega arith)) (ap (λ m. get_or (set xs n v) m d) e ∙ get_or-set_same xs n v d l)
+          (less before o _ _ _ (sooner d) (by _ _ _ _ false refl (ap (λ m. get_or xs m d) (sym e)) (h k d a))))
+          (λ u. by _ _ _ _ false (get_or-set_other xs n k v d (omega arith)) (get_or-set_other xs n (k + 1) v d u) (h k d a))
+          (cases_eq (k + 1) n)
 
-    pub row_lower : (xs : List X) (n : ℕ) (v : X) → 0 < n → n ≤ length xs → ((d : X) → before v (get_or xs (n - 1) d) ≡ true) → Falling before xs n → bag_of before (set xs (n - 1) v) n ≡ v ∷ bag_of before xs (n - 1)
-    row_lower xs n v z l t h =
-        let len = length-set xs (n - 1) v in
-        row_first (set xs (n - 1) v) n v z (omega arith) (falling_lower xs n v z l t h)
-        ∙ (λ k. get_or-set_same xs (n - 1) v v (omega arith) k ∷ sorted before (take-set xs (n - 1) v k))
+      pub row_lower : bag_of before (set xs n v) (n + 1) ≡ v ∷ bag_of before xs n
+      row_lower =
+          let len = length-set xs n v in
+          row_first (set xs n v) n v (omega arith) falling_lower
+          ∙ (λ k. get_or-set_same xs n v v l k ∷ sorted before (take-set xs n v k))

@@ -1,5 +1,5 @@
 -- A row in falling order: its first is at the end.
-use Rattle.std.specs.Prelude.{◌≡◌, ℕ, ◌+◌, ◌<◌, ◌≤◌, Bool, true, false, List, drop, slice_index_or}
+use Rattle.std.specs.Prelude.{◌≡◌, ℕ, ◌+◌, ◌<◌, Bool, false, List, drop, slice_index_or}
 use Rattle.pile.specs.Sorted.{insert}
 use Rattle.pile.specs.Piles.{bag_of}
 
@@ -7,11 +7,6 @@ module _ {X : Type 0} (before : X → X → Bool) where
   -- of the first n, none comes before the next
   abbrev pub Falling : List X → ℕ → Type 0
   Falling xs n = (i : ℕ) (d : X) → i + 1 < n → before (slice_index_or xs i d) (slice_index_or xs (i + 1) d) ≡ false
-
-  -- x belongs at `place`: what stands before the place comes no sooner than x, and the rest of the first n does
-  pub record Belongs (xs : List X) (n : ℕ) (x : X) (place : ℕ) : Type 0 where
-    pub later : (k : ℕ) (d : X) → k < place → before (slice_index_or xs k d) x ≡ false
-    pub earlier : (k : ℕ) (d : X) → place ≤ k → k < n → before (slice_index_or xs k d) x ≡ true
 
   -- x is inserted into a row of `count`
   pub record Inserted (area : List X) (count : ℕ) (x : X) (area' : List X) : Type 0 where

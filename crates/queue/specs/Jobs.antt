@@ -1,5 +1,5 @@
 -- Jobs: which of two runs first, and what the calls of a ready queue do to a bag of jobs.
-use Rattle.std.specs.Prelude.{◌-◌, Bool, true, false, cond, List, [], ◌∷◌, nat_le}
+use Rattle.std.specs.Prelude.{◌-◌, Bool, true, false, if◌then◌else◌, List, [], ◌∷◌, nat_le}
 use Rattle.pile.specs.Order.{by, by_then}
 use Rattle.pile.specs.Sorted.{insert}
 use Rattle.queue.specs.declared.job.Job.{Job}
@@ -24,4 +24,4 @@ lowered job = record { deadline = job.deadline; owner = job.owner; left = job.le
 -- the first job has a slot less; one that had at most one left has gone
 abbrev pub spent : List Job → List Job
 spent [] = []
-spent (job ∷ jobs) = cond (nat_le job.left 1) jobs (lowered job ∷ jobs)
+spent (job ∷ jobs) = if nat_le job.left 1 then jobs else lowered job ∷ jobs

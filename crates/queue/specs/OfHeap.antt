@@ -20,11 +20,11 @@ heap_places heap = places_of heap.pile.area.now
 
 pub heap_count : (heap : Heap) → length (heap_bag heap) ≡ heap.pile.count
 heap_count heap =
-    let w = heap.within in
+    let within = heap.pile.piled.within in
     length_sorted sooner (take heap.pile.count heap.pile.area.now) ∙ length-take-le heap.pile.count heap.pile.area.now (omega arith)
 
 pub heap_sound : (heap : Heap) → Sound (heap_bag heap) (heap_places heap)
 heap_sound heap =
     let n = heap_count heap in
-    let w = heap.within in
+    let within = heap.pile.piled.within in
     record { fits = omega arith; few = omega arith; ordered = sorted_sorted sooner sooner_total (take heap.pile.count heap.pile.area.now) }

@@ -11,18 +11,18 @@ use Rattle.queue.specs.JobOrder.{sooner_total}
 use Rattle.queue.specs.Sound.{Sound}
 
 abbrev pub row_bag : Row → List Job
-row_bag row = bag_of sooner row.line.area.now row.line.count
+row_bag row = bag_of sooner row.area.now row.count
 
 abbrev pub row_places : Row → ℕ
-row_places row = places_of row.line.area.now
+row_places row = places_of row.area.now
 
-pub row_count : (row : Row) → length (row_bag row) ≡ row.line.count
+pub row_count : (row : Row) → length (row_bag row) ≡ row.count
 row_count row =
     let w = row.within in
-    length_sorted sooner (take row.line.count row.line.area.now) ∙ length-take-le row.line.count row.line.area.now (omega arith)
+    length_sorted sooner (take row.count row.area.now) ∙ length-take-le row.count row.area.now (omega arith)
 
 pub row_sound : (row : Row) → Sound (row_bag row) (row_places row)
 row_sound row =
     let n = row_count row in
     let w = row.within in
-    record { fits = omega arith; few = omega arith; ordered = sorted_sorted sooner sooner_total (take row.line.count row.line.area.now) }
+    record { fits = omega arith; few = omega arith; ordered = sorted_sorted sooner sooner_total (take row.count row.area.now) }

@@ -12,14 +12,8 @@ mod insert;
 
 #[derive(Drop)]
 pub struct Row<'a> {
-    line: Line<'a>,
-    ghost within: { line.count ≤ places_of line.area.now },
-    ghost falling: { Falling sooner line.area.now line.count },
-}
-
-// The first `count` jobs of a lent area, with no claim about their order: it may lend the area on while a job is put.
-#[derive(Drop)]
-pub struct Line<'a> {
     area: &'a mut [Job],
     count: usize,
+    ghost within: { count ≤ places_of area.now },
+    ghost falling: { Falling sooner area.now count },
 }

@@ -1,5 +1,5 @@
 -- What a list of operations makes of a bag.
-use Rattle.std.specs.Prelude.{ℕ, cond, List, [], ◌∷◌, length, nat_lt}
+use Rattle.std.specs.Prelude.{ℕ, if◌then◌else◌, List, [], ◌∷◌, length, nat_lt}
 use Rattle.pile.specs.Sorted.{without_first}
 use Rattle.queue.specs.declared.job.Job.{Job}
 use Rattle.queue.specs.Jobs.{put_job, spent}
@@ -8,7 +8,7 @@ use Rattle.queue_trial.specs.declared.clients.Operation.TheVariants.{Put, Spend,
 
 -- one operation on a bag with so many places
 abbrev pub after_one : ℕ → List Job → Operation → List Job
-after_one places bag (Put job) = cond (nat_lt (length bag) places) (put_job job bag) bag
+after_one places bag (Put job) = if nat_lt (length bag) places then put_job job bag else bag
 after_one places bag Spend = spent bag
 after_one places bag DropFirst = without_first bag
 

@@ -28,8 +28,8 @@ fn any_job(dice: &mut Dice) -> Job {
 // Mostly puts at first, and later about as many jobs go as come.
 fn any_operation(dice: &mut Dice) -> Operation {
     match dice.below(7) {
-        0 | 1 | 2 | 3 => Operation::Put(any_job(dice)),
-        4 | 5 => Operation::Spend,
+        0..=3 => Operation::Put(any_job(dice)),
+        4..=5 => Operation::Spend,
         _ => Operation::DropFirst,
     }
 }
@@ -42,16 +42,8 @@ fn apply_to_list(list: &mut PlainList, operation: Operation) -> Result<bool, All
     }
 }
 
-fn same_job(a: Option<Job>, b: Option<Job>) -> bool {
-    match (a, b) {
-        (None, None) => true,
-        (Some(a), Some(b)) => { a.deadline == b.deadline && a.owner == b.owner && a.left == b.left }
-        _ => false,
-    }
-}
-
 fn same_bag<Q: ReadyQueue>(queue: &Q, list: &PlainList) -> bool {
-    queue.count() == list.count() && same_job(queue.first(), list.first())
+    queue.count() == list.count() && queue.first() == list.first()
 }
 
 // What a trial saw: how many operations did something, how many did not, and whether all three were always alike.
@@ -99,15 +91,14 @@ fn trial(rt: &HostRuntime, dice: &mut Dice, places: usize, steps: u32) -> anyhow
     let mut heap = Heap::new(&mut heap_area);
     let mut row = Row::new(&mut row_area);
     let mut list = PlainList::new(rt.alloc(), places);
-    let tally = compare(&mut heap, &mut row, &mut list, dice, steps)?;
-    let in_heap = clients::drain(&mut heap);
-    let in_row = clients::drain(&mut row);
-    let left = list.count();
     let Tally {
         done,
         refused,
         alike,
-    } = tally;
+    } = compare(&mut heap, &mut row, &mut list, dice, steps)?;
+    let in_heap = clients::drain(&mut heap);
+    let in_row = clients::drain(&mut row);
+    let left = list.count();
     let verdict = if alike && in_heap == left && in_row == left {
         "alike"
     } else {
@@ -125,16 +116,16 @@ fn overfill(rt: &HostRuntime) -> anyhow::Result<()> {
     let mut row_area = vec![in rt.alloc(); NOBODY; 65_600]?;
     let mut heap = Heap::new(&mut heap_area);
     let mut row = Row::new(&mut row_area);
-    let mut operations = Vec::new(rt.alloc());
-    for i in 0..65_600u32 {
-        operations.push(Operation::Put(Job {
-            deadline: 65_600 - i,
+    let operations: Vec<Operation> = (1..=65_600)
+        .rev()
+        .map(|deadline| Operation::Put(Job {
+            deadline,
             owner: 0,
             left: 1,
-        }))?;
-    }
-    clients::run(&mut heap, operations.as_slice());
-    clients::run(&mut row, operations.as_slice());
+        }))
+        .collect(rt.alloc())?;
+    clients::run(&mut heap, &operations);
+    clients::run(&mut row, &operations);
     let in_heap = heap.count();
     let in_row = row.count();
     println!(rt; "65600 jobs for an area of 65600: {in_heap} in the heap, {in_row} in the row")?;
@@ -143,7 +134,7 @@ fn overfill(rt: &HostRuntime) -> anyhow::Result<()> {
 
 fn main(rt: HostRuntime) -> anyhow::Result<()> {
     let mut dice = Dice::new(1);
-    for places in [0usize, 1, 2, 7, 96, 500] {
+    for places in [0, 1, 2, 7, 96, 500] {
         trial(&rt, &mut dice, places, 20_000)?;
     }
     overfill(&rt)

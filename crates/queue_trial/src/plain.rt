@@ -8,9 +8,9 @@ pub struct PlainList {
     places: usize,
 }
 
-fn runs_before(a: Job, b: Job) -> bool {
-    a.deadline < b.deadline
-        || a.deadline == b.deadline && (a.owner < b.owner || a.owner == b.owner && a.left < b.left)
+// What the list is kept in order by. The jobs' own order is not asked, since it is one of the things compared.
+fn key(job: &Job) -> (u32, u8, u16) {
+    (job.deadline, job.owner, job.left)
 }
 
 impl PlainList {
@@ -33,13 +33,12 @@ impl PlainList {
         if self.jobs.len() >= self.places {
             return Ok(false);
         }
-        for i in 0..self.jobs.len() {
-            if !runs_before(self.jobs[i], job) {
-                self.jobs.insert(i, job)?;
-                return Ok(true);
-            }
-        }
-        self.jobs.push(job)?;
+        let place = self
+            .jobs
+            .iter()
+            .position(|other| key(other) >= key(&job))
+            .unwrap_or(self.jobs.len());
+        self.jobs.insert(place, job)?;
         Ok(true)
     }
 
@@ -52,17 +51,13 @@ impl PlainList {
     }
 
     pub fn spend(&mut self) -> bool {
-        match self.jobs.first().copied() {
+        match self.jobs.first_mut() {
             None => false,
-            Some(job) if job.left <= 1 => self.drop_first(),
-            Some(job) => {
-                self.jobs[0] = Job {
-                    deadline: job.deadline,
-                    owner: job.owner,
-                    left: job.left - 1,
-                };
+            Some(job) if job.left > 1 => {
+                job.left -= 1;
                 true
             }
+            Some(_) => self.drop_first(),
         }
     }
 }

@@ -10,6 +10,7 @@ use pile::{Pile, PutRefusal};
 
 impl<'a> Heap<'a> {
     // An empty queue over the area, which is left as it was. Its places are the area's, or 65,535 of a longer one.
+    #[tactic(auto, using(pile::proofs::Inserting::sorted_none))]
     pub fn new(area: &'a mut [Job]) -> Heap<'a>
         ensures bag { heap_bag result ≡ [] }
         ensures places { heap_places result ≡ places_of area.old }
@@ -35,6 +36,7 @@ impl<'a> ReadyQueue for Heap<'a> {
         self.pile.places()
     }
 
+    #[tactic(auto, using(crate::proofs::Heaps::count_is))]
     fn count(&self) -> usize {
         self.pile.count()
     }
@@ -43,10 +45,12 @@ impl<'a> ReadyQueue for Heap<'a> {
         self.pile.first()
     }
 
+    #[tactic(auto, using(crate::proofs::Heaps::heap_puts, crate::proofs::Heaps::put_places))]
     fn put(&mut self, job: Job) -> Result<(), PutRefusal> {
         self.pile.put(job)
     }
 
+    #[tactic(auto, using(crate::proofs::Heaps::heap_spends))]
     fn spend(&mut self) -> bool {
         let Some(mut job) = self.pile.first() else {
             return false;
@@ -59,6 +63,7 @@ impl<'a> ReadyQueue for Heap<'a> {
         self.pile.replace_first(job)
     }
 
+    #[tactic(auto, using(crate::proofs::Heaps::heap_drops))]
     fn drop_first(&mut self) -> bool {
         self.pile.drop_first()
     }

@@ -5,20 +5,20 @@ ghost use Rattle.queue.specs.OfRow.{row_bag, row_places, row_sound};
 
 use super::super::job::Job;
 use super::super::ready::ReadyQueue;
-use super::{Line, Row};
-use pile::PutRefusal;
+use super::Row;
+use super::insert::insert;
+use pile::{PutRefusal, area};
 
 impl<'a> Row<'a> {
     // An empty queue over the area, which is left as it was. Its places are the area's, or 65,535 of a longer one.
+    #[tactic(auto, unfolding(pile::specs::Sorted::sorted))]
     pub fn new(area: &'a mut [Job]) -> Row<'a>
         ensures bag { row_bag result ≡ [] }
         ensures places { row_places result ≡ places_of area.old }
-        ensures same { result.line.area.now ≡ area.old }
-        ensures lender { result.line.area.ghost_name ≡ area.entry.ghost_name }
+        ensures same { result.area.now ≡ area.old }
+        ensures lender { result.area.ghost_name ≡ area.entry.ghost_name }
     {
-        Row {
-            line: Line { area, count: 0 },
-        }
+        Row { area, count: 0 }
     }
 }
 
@@ -27,52 +27,55 @@ impl<'a> ReadyQueue for Row<'a> {
 
     ghost places = { row_places };
 
-    ghost whose = { λ row. row.line.area.ghost_name };
+    ghost whose = { λ row. row.area.ghost_name };
 
     ghost sound = { row_sound };
 
     fn places(&self) -> usize {
-        self.line.places()
+        area::places(self.area)
     }
 
+    #[tactic(auto, using(crate::proofs::RowCalls::count_is))]
     fn count(&self) -> usize {
-        self.line.len()
+        self.count
     }
 
+    #[tactic(auto, using(crate::proofs::RowCalls::first_is))]
     fn first(&self) -> Option<Job> {
-        if self.line.count == 0 {
-            return None;
-        }
-        Some(self.line.area[self.line.count - 1])
+        self.area[..self.count].last().copied()
     }
 
+    #[tactic(auto, using(crate::specs::OfRow::row_count))]
     fn put(&mut self, job: Job) -> Result<(), PutRefusal> {
-        if self.line.count >= self.line.places() {
+        // named by the type, since `self` is lent here and a lent queue is a queue too (lent.rt)
+        if self.count >= Row::places(self) {
             return Err(PutRefusal::Full);
         }
-        self.line.put(job);
+        insert(self.area, self.count, job);
+        self.count += 1;
         Ok(())
     }
 
+    #[tactic(auto, using(crate::proofs::RowCalls::row_spends))]
     fn spend(&mut self) -> bool {
-        if self.line.count == 0 {
+        let Some(last) = self.count.checked_sub(1) else {
             return false;
-        }
-        let last = self.line.count - 1;
-        let is_last_slot = self.line.area[last].left <= 1;
+        };
+        let is_last_slot = self.area[last].left <= 1;
         if is_last_slot {
-            self.line.count = last;
+            self.count = last;
         } else {
-            self.line.area[last].left -= 1;
+            self.area[last].left -= 1;
         }
         true
     }
 
+    #[tactic(auto, using(crate::proofs::RowCalls::row_drops))]
     fn drop_first(&mut self) -> bool {
-        if self.line.count == 0 {
+        let Some(fallen) = self.count.checked_sub(1) else {
             return false;
-        }
-        self.line.count -= 1;
+        };
+        self.count = fallen;
         true
     }
 }

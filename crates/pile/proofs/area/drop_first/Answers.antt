@@ -1,3 +1,4 @@
+-- The last is written over the first and sinks; an only one just leaves.
 use Rattle.std.proofs.Common.{◌-◌, ◌<◌, length, arith}
 use Rattle.std.proofs.lemmas.List.{get_or_read}
 use Rattle.pile.proofs.Calls.{drops, drops_only}

@@ -1,3 +1,4 @@
+-- The element is written behind the heap and lifted.
 use Rattle.std.proofs.Common.{arith}
 use Rattle.pile.proofs.Calls.{puts}
 use Rattle.pile.proofs.area.put.Goals as goal

@@ -1,3 +1,4 @@
+-- The element is written over the first, and sinks if it comes after it.
 use Rattle.std.proofs.Common.{◌<◌, length, sym, ap, ◌∙◌, arith}
 use Rattle.std.proofs.lemmas.List.{get_or_read}
 use Rattle.pile.proofs.Calls.{replaces_late, replaces_early}

@@ -1,3 +1,4 @@
+-- Each turn swaps the hole with its parent; it ends at the top or under a parent that does not come after `element`.
 use Rattle.std.proofs.Common.{ℕ, ◌-◌, ◌/◌, ◌<◌, length, sym, ap, ◌∙◌, arith}
 use Rattle.std.proofs.lemmas.List.{get_or_read}
 use Rattle.pile.proofs.Holes.{lifting_steps, lifting_ends}

@@ -1,3 +1,4 @@
+-- The hole rises: with `element` in it, only the hole may come before its parent.
 use Rattle.pile.proofs.Holes.{Lifting}
 use Rattle.pile.proofs.sift.lift.Given as goal
 

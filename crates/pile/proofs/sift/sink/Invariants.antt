@@ -1,3 +1,4 @@
+-- The hole sinks: with `element` in it, the area is a heap around the hole.
 use Rattle.std.proofs.Common.{◌-◌}
 use Rattle.pile.proofs.Holes.{Sinking}
 use Rattle.pile.proofs.sift.sink.Given as goal

@@ -1,3 +1,4 @@
+-- The jobs that have left and the jobs that are left are all the jobs.
 use Rattle.std.proofs.Common.{◌≡◌, ◌+◌, length}
 use Rattle.queue_trial.proofs.clients.drain.Given as goal
 

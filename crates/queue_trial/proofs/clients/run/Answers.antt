@@ -1,3 +1,4 @@
+-- Each turn makes the first of the operations that are left.
 use Rattle.std.proofs.Common.{◌≡◌, ℕ, ◌+◌, ◌<◌, List, length, get_or, drop, sym, ap, ◌∙◌}
 use Rattle.std.proofs.lemmas.List.{at_drop_more, at_drop_all}
 use Rattle.queue.specs.declared.job.Job.{Job}

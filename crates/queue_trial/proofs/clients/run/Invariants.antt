@@ -1,8 +1,8 @@
+-- What is left to do decides what the bag is in the end.
 use Rattle.std.proofs.Common.{◌≡◌, drop}
 use Rattle.queue_trial.specs.Operations.{after_all}
 use Rattle.queue_trial.proofs.clients.run.Given as goal
 
--- what is left to do decides what the bag is in the end
 abbrev pub invariant-loop-operation : goal.invariant-loop-operation
 invariant-loop-operation g l =
     (g.Q.ReadyQueue.places l.queue ≡ g.Q.ReadyQueue.places l.initial.queue)
