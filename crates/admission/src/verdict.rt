@@ -63,8 +63,8 @@ fn load_of(records: &Records<'_>, cycle: u64) -> u64
     load
 }
 
-// Reads a sheet, adds up its load and its cycle, and answers both; a sheet that is admitted fills the table, and a
-// refusal leaves it as it was.
+// Reads a sheet, adds up its load and its cycle, and answers both as a pair, which is how a verdict is told; a sheet that is
+// admitted fills the table, and a refusal leaves it as it was.
 #[tactic(auto, using(crate::proofs::Verdicts::admission_laws))]
 pub fn admit(bytes: &[u8], table: &mut Table) -> Result<(u64, u64), AdmissionFault>
     ensures answer { result ≡ admit_sheet bytes.now }

@@ -1,5 +1,6 @@
-// The ordered pile over memory that a host lends. It holds no more than the area and the count, and hands the area to the
-// functions of `area`. Every pile holds its bag: `piled`.
+// The ordered pile over memory that a host lends, since a unit has no heap for a `Vec`. It holds no more than the area and
+// the count, and hands the area to the functions of `area`. Every pile holds its bag: `piled`. That a call keeps the lender
+// is a clause of each: it ties what was before a call to what is after, which no field can.
 ghost use Rattle.std.specs.Prelude.{◌≡◌, ◌≤◌, take, IsTrue, MatchBool, MatchResult};
 ghost use Rattle.pile.specs.Sorted.{insert, first_of, without_first};
 ghost use Rattle.pile.specs.Piles.{places_of, bag_of, Piled, Put, Dropped, Replaced};

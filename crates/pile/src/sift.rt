@@ -1,5 +1,5 @@
 // The two ways through a heap. Both move a hole, a place whose element is held elsewhere, so that each element on the way
-// is copied once.
+// is copied once. Their loops go from a child to its parent, or down, by index: no iterator goes through a slice that way.
 ghost use Rattle.std.specs.Prelude.{◌≡◌, ℕ, ◌+◌, ◌<◌, ◌≤◌, length};
 ghost use Rattle.pile.specs.Sorted.{sorted};
 ghost use Rattle.pile.specs.Heaps.{Heaped, Rising, Hollow};

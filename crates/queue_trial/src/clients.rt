@@ -4,6 +4,7 @@ ghost use Rattle.queue_trial.specs.Operations.{after_one, after_all};
 
 use queue::{Job, ReadyQueue};
 
+// What is done to a queue, as a value and no closure: a list holds operations, and the definition of what they do reads them.
 #[derive(Clone, Copy)]
 pub enum Operation {
     Put(Job),

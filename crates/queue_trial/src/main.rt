@@ -34,6 +34,7 @@ fn any_operation(dice: &mut Dice) -> Operation {
     }
 }
 
+// Beside `clients::apply`, since a list asks for memory and may not get it, and a queue does not.
 fn apply_to_list(list: &mut PlainList, operation: Operation) -> Result<bool, AllocError> {
     match operation {
         Operation::Put(job) => list.put(job),

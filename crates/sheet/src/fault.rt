@@ -28,7 +28,8 @@ impl fmt::Display for Layer {
     }
 }
 
-// What a fault is told by: its number, the byte of the sheet that it lies at, and its layer.
+// What a fault is told by: its number, the byte of the sheet that it lies at, and its layer. The rules tell a refusal by a
+// number, and a case that holds a byte or another fault can have no discriminant, so `diagnosis` gives it by case.
 #[derive(Clone, Copy, Debug, PartialEq, Eq)]
 pub struct Diagnosis {
     pub number: u8,
@@ -114,6 +115,7 @@ impl fmt::Display for RecordFault {
     }
 }
 
+// By hand, since the clause names the case that it makes, and a derived one would not.
 impl From<ByteFault> for RecordFault {
     ghost from_gives = { λ fault r. r ≡ Bytes fault };
 

@@ -4,6 +4,9 @@ ghost use Rattle.sheet.specs.Header.{header_of};
 
 use super::fault::ByteFault;
 
+// The header's own bytes; the records begin behind them.
+pub(crate) const HEADER_BYTES: usize = 5;
+
 // At most so many polls and so many lanes stand on a sheet.
 pub const MOST_POLLS: usize = 32;
 
@@ -24,7 +27,7 @@ pub(crate) fn read_header(bytes: &[u8]) -> Result<Header, ByteFault>
         return Err(ByteFault::Length);
     };
     let length = usize::from(u16::from_be_bytes([*length_high, *length_low]));
-    if length < 5 || length > bytes.len() {
+    if length < HEADER_BYTES || length > bytes.len() {
         return Err(ByteFault::Length);
     }
     if *version != 1 {

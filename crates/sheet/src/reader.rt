@@ -8,7 +8,7 @@ ghost use Rattle.sheet.specs.Laws.{SheetLaws};
 ghost use Rattle.sheet.specs.Reading.{entries_from, read_sheet, Gives};
 
 use super::fault::RecordFault;
-use super::header::{Header, read_header};
+use super::header::{HEADER_BYTES, Header, read_header};
 use super::kind::Kind;
 use super::place::Place;
 use super::record::Record;
@@ -30,11 +30,11 @@ fn read_records<'a>(
     sheet: &'a [u8],
     header: Header,
 ) -> Result<Few<Record<'a>, MOST_RECORDS>, RecordFault>
-    requires few { header.polls + header.lanes ≤ 40 }
+    requires few { header.polls + header.lanes ≤ MOST_RECORDS }
     ensures value { Gives (λ list. map seen (elements list)) result (entries_from (header.polls + header.lanes) header.polls 0 [] sheet.now header_bytes) }
 {
     let mut list = Few::new(NO_RECORD);
-    let mut at = 5;
+    let mut at = HEADER_BYTES;
     for i in 0..header.polls + header.lanes {
         let kind = Kind::due(header.polls, i);
         let record = Place { sheet, at }.record(kind, list.as_slice())?;

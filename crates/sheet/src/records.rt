@@ -47,7 +47,7 @@ impl<'a> Records<'a> {
 
     pub fn as_slice(&self) -> &[Record<'a>]
         ensures value { result.now ≡ records_in self.now }
-        ensures few { length result.now ≤ 40 }
+        ensures few { length result.now ≤ MOST_RECORDS }
     {
         self.list.as_slice()
     }
