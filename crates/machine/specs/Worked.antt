@@ -1,4 +1,4 @@
--- Two halls and a history of each, worked out: the definitions say what they should, and units that were opened exist.
+-- Three halls and a history of each, worked out: the definitions say what they should, and units that were opened exist.
 use Rattle.std.specs.Prelude.{◌≡◌, ℕ, zero, suc, List, [], ◌∷◌, ◌++◌, map, reverse, replicate, Ok, Err}
 use Rattle.machine.specs.declared.call.Call.{Call}
 use Rattle.machine.specs.declared.call.Call.TheVariants.{Request, Grant, Report}
@@ -47,8 +47,14 @@ from (suc more) n = n ∷ from more (suc n)
 abbrev pub full_owners : List ℕ
 full_owners = from 8 32 ++ (from 32 0 ++ replicate 8 255)
 
+-- A HALL OF THIRDS: no poll, and one lane of 2 in 3, in which one slot reaches a slot and a half far: two slots, rounded up
+abbrev pub thirds_hall : Setup
+thirds_hall = set_up 8 (record { polls = []; lanes = record { span = 3; quota = 2 } ∷ []; load = 2; cycle = 3 }) 1
+
 pub record Worked : Type 0 where
   pub small_opened : Opened small_hall
   pub small_day_is : answers_from small_hall (fresh small_hall) small_day ≡ small_answers
   pub full_opened : Opened full_hall
   pub full_day_is : map (λ slot. slot.owner) (reverse (slots_in (record_of full_hall (reverse (ask_each 8 0 ++ turns 48 0))))) ≡ full_owners
+  pub thirds_opened : Opened thirds_hall
+  pub thirds_are : answers_from thirds_hall (fresh thirds_hall) (Request 0 1 ∷ Request 0 1 ∷ []) ≡ Ok (Deadline 2) ∷ Ok (Deadline 4) ∷ []

@@ -8,7 +8,7 @@ pub fn promises_stand()
     ensures kept { PromisesStand }
 {}
 
-// Two histories worked out by the definitions, and two units that were opened, so that the promises are about something.
+// Histories worked out by the definitions, of units that were opened, so that the promises are about something.
 pub fn worked_histories()
     ensures worked { Worked }
 {}

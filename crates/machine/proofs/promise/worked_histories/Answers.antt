@@ -1,4 +1,4 @@
--- Both histories are computed by the definitions.
+-- The histories are computed by the definitions.
 use Rattle.std.proofs.Common.{refl, lit≤}
 use Rattle.pile.specs.Sorted.{insert}
 use Rattle.queue.specs.Jobs.{sooner}
@@ -24,5 +24,11 @@ returns c = record {
       roomy = lit≤ tt;
     };
     full_day_is = refl;
+    thirds_opened = record {
+      is_opened = refl;
+      admissible = record { few_polls = lit≤ tt; few_lanes = lit≤ tt; polls_fit = refl; lanes_fit = refl; cycle_is = refl; short = lit≤ tt; load_is = refl; light = lit≤ tt };
+      roomy = lit≤ tt;
+    };
+    thirds_are = refl;
   };
 }
