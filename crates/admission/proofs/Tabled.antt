@@ -1,7 +1,7 @@
 -- The records of a sheet that is admitted make an admissible table: polls stand before lanes, so that the lengths, the
 -- load and the counts of the records are those of the polls and the lanes.
 use Rattle.std.proofs.Common.{◌≡◌, ℕ, zero, suc, ◌+◌, ◌-◌, ◌≤◌, Bool, true, false, leb, List, [], ◌∷◌, map, length, Ok, sym, refl, ap, ◌∙◌, subst, arith}
-use Rattle.std.specs.List.{AllByRecursion}
+use Rattle.std.specs.List.{AllByRecursion, list_all}
 use Rattle.std.proofs.lemmas.List.{nil_from_length}
 use Rattle.std.proofs.lemmas.Bool.{and_from, le-leb, leb-true}
 use Rattle.sheet.proofs.Answers.{ok_same, cond_ok}
@@ -14,7 +14,7 @@ use Rattle.sheet.specs.Limited.{WithinLimits}
 use Rattle.sheet.specs.Laws.{PollsFirst, WellRead}
 use Rattle.admission.specs.declared.fault.AdmissionFault.TheVariants.{Cycle}
 use Rattle.admission.specs.Measure.{multiple_of}
-use Rattle.admission.specs.Limits.{poll_fits, lane_fits, all_fit}
+use Rattle.admission.specs.Limits.{poll_fits, lane_fits}
 use Rattle.admission.specs.Demand.{longest_cycle, multiple_of_all, lengths_of, load_of}
 use Rattle.admission.specs.Contents.{Admissible}
 use Rattle.admission.specs.Verdict.{length_of, lengths, cycle_from, load_in, polls_in, lanes_in, filled}
@@ -28,14 +28,14 @@ clash : {A : Type 0} → true ≡ false → A
 clash e = absurd (let z : ◌≡◌ {A = ℕ} 0 1 = cc in omega arith)
 
 -- the numbers lie in their limits
-polls_fit : (entries : List Entry) → AllByRecursion WithinLimits entries → all_fit poll_fits (polls_in entries) ≡ true
+polls_fit : (entries : List Entry) → AllByRecursion WithinLimits entries → list_all poll_fits (polls_in entries) ≡ true
 polls_fit [] h = refl
 polls_fit (poll name phase period budget at ∷ entries) h =
     let own = h.0 in
     and_from _ _ (and_from _ _ (le-leb phase latest_phase own.0) (and_from _ _ (le-leb 1 period own.1) (and_from _ _ (le-leb period longest_span own.2) (and_from _ _ (le-leb 1 budget own.3) (le-leb budget period own.4))))) (polls_fit entries h.1)
 polls_fit (lane name span quota at ∷ entries) h = polls_fit entries h.1
 
-lanes_fit : (entries : List Entry) → AllByRecursion WithinLimits entries → all_fit lane_fits (lanes_in entries) ≡ true
+lanes_fit : (entries : List Entry) → AllByRecursion WithinLimits entries → list_all lane_fits (lanes_in entries) ≡ true
 lanes_fit [] h = refl
 lanes_fit (poll name phase period budget at ∷ entries) h = lanes_fit entries h.1
 lanes_fit (lane name span quota at ∷ entries) h =

@@ -1,6 +1,5 @@
 -- The limits of the numbers of polls and lanes, as tests.
-use Rattle.std.specs.Prelude.{Bool, ◌&&◌, List, nat_le}
-use Rattle.std.specs.List.{list_all}
+use Rattle.std.specs.Prelude.{Bool, ◌&&◌, nat_le}
 use Rattle.sheet.specs.Limits.{latest_phase, longest_span}
 use Rattle.admission.specs.declared.table.Poll.{Poll}
 use Rattle.admission.specs.declared.table.Lane.{Lane}
@@ -12,7 +11,3 @@ poll_fits poll =
 
 abbrev pub lane_fits : Lane → Bool
 lane_fits lane = nat_le 1 lane.span && (nat_le lane.span longest_span && (nat_le 1 lane.quota && nat_le lane.quota lane.span))
-
--- each of the list passes the test
-abbrev pub all_fit : {X : Type 0} → (X → Bool) → List X → Bool
-all_fit fits xs = list_all fits xs

@@ -36,6 +36,7 @@ impl fmt::Display for AdmissionFault {
     }
 }
 
+// By hand, since the clause names the case that it makes, and a derived one would not.
 impl From<RecordFault> for AdmissionFault {
     ghost from_gives = { λ fault r. r ≡ Record fault };
 

@@ -10,4 +10,4 @@ pub mod verdict;
 pub use fault::AdmissionFault;
 pub use measure::common_measure;
 pub use table::{Lane, Poll, Table};
-pub use verdict::{admit, length_of, share_of};
+pub use verdict::{Verdict, admit, length_of, share_of};

@@ -1,8 +1,8 @@
 // Common measures and common multiples of lengths.
-ghost use Rattle.std.specs.Prelude.{◌≡◌, ◌<◌, ◌≤◌};
+ghost use Rattle.std.specs.Prelude.{◌≡◌, ◌*◌, ◌<◌, ◌≤◌};
+ghost use Rattle.std.specs.Int.{IsGcd};
 ghost use Rattle.sheet.specs.Limits.{longest_span};
 ghost use Rattle.admission.specs.Demand.{longest_cycle};
-ghost use Rattle.std.specs.Int.{IsGcd};
 ghost use Rattle.admission.specs.Measure.{LeastCommonMultiple, measure_of, multiple_of};
 
 // The greatest length that measures both, by falling remainders. With 0 it is the other one.
@@ -13,14 +13,20 @@ pub fn common_measure(a: u64, b: u64) -> u64
     if b == 0 { a } else { common_measure(b, a % b) }
 }
 
+// A cycle within its limit.
+#[derive(Clone, Copy)]
+pub(crate) struct Cycle {
+    pub(crate) slots: u64,
+    ghost some: { 0 < slots },
+    ghost short: { slots ≤ longest_cycle },
+}
+
 // The least length that both measure.
-pub(crate) fn common_multiple(cycle: u64, length: u64) -> u64
-    requires some { 0 < cycle }
-    requires short { cycle ≤ longest_cycle }
+pub(crate) fn common_multiple(cycle: Cycle, length: u64) -> u64
     requires within { length ≤ longest_span }
-    ensures value { result ≡ multiple_of cycle length }
-    ensures least { LeastCommonMultiple cycle length result }
-    ensures bound { result ≤ 10000000000000 }
+    ensures value { result ≡ multiple_of cycle.slots length }
+    ensures least { LeastCommonMultiple cycle.slots length result }
+    ensures bound { result ≤ longest_cycle * longest_span }
 {
-    cycle / common_measure(cycle, length) * length
+    cycle.slots / common_measure(cycle.slots, length) * length
 }

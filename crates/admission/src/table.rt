@@ -1,8 +1,9 @@
 // The table of a hall: what admission fills and what the unit works from.
 ghost use Rattle.std.specs.Prelude.{◌≡◌, ◌≤◌, true};
+ghost use Rattle.std.specs.List.{list_all};
 ghost use Rattle.few.specs.Elements.{elements};
 ghost use Rattle.admission.specs.Demand.{longest_cycle, cycle_of, load_of};
-ghost use Rattle.admission.specs.Limits.{poll_fits, lane_fits, all_fit};
+ghost use Rattle.admission.specs.Limits.{poll_fits, lane_fits};
 
 use few::Few;
 use sheet::header::{MOST_LANES, MOST_POLLS};
@@ -42,8 +43,8 @@ pub struct Table {
     lanes: Few<Lane, MOST_LANES>,
     load: u64,
     cycle: u64,
-    ghost polls_fit: { all_fit poll_fits (elements polls) ≡ true },
-    ghost lanes_fit: { all_fit lane_fits (elements lanes) ≡ true },
+    ghost polls_fit: { list_all poll_fits (elements polls) ≡ true },
+    ghost lanes_fit: { list_all lane_fits (elements lanes) ≡ true },
     ghost cycle_is: { cycle ≡ cycle_of (elements polls) (elements lanes) },
     ghost short: { cycle ≤ longest_cycle },
     ghost load_is: { load ≡ load_of cycle (elements polls) (elements lanes) },

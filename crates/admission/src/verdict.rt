@@ -1,16 +1,19 @@
 // Adds up what a sheet asks for and decides whether it fits.
-ghost use Rattle.std.specs.Prelude.{◌≡◌, ◌≤◌, IfOk, OnErr};
+ghost use Rattle.std.specs.Prelude.{◌≡◌, OnErr};
 ghost use Rattle.sheet.specs.Entries.{seen};
 ghost use Rattle.sheet.specs.Held.{held};
+ghost use Rattle.sheet.specs.Reading.{Gives};
 ghost use Rattle.admission.specs.Contents.{contents};
-ghost use Rattle.admission.specs.Demand.{longest_cycle};
 ghost use Rattle.admission.specs.Laws.{AdmissionLaws};
 ghost use Rattle.admission.specs.Verdict.{length_of, share_of, cycle_from, load_in, admit_sheet, fill_table};
 
 use super::fault::AdmissionFault;
-use super::measure::common_multiple;
+use super::measure::{Cycle, common_multiple};
 use super::table::Table;
 use sheet::{Record, Records};
+
+// Load and cycle, or why a sheet is not admitted.
+pub type Verdict = Result<(u64, u64), AdmissionFault>;
 
 // The longest cycle that is admitted.
 const LONGEST_CYCLE: u64 = 1_000_000_000;
@@ -35,30 +38,29 @@ pub fn share_of(record: Record<'_>) -> u64
     }
 }
 
-// The least common multiple of all periods and spans.
-fn cycle_of(records: &Records<'_>) -> Result<u64, AdmissionFault>
-    ensures value { result ≡ cycle_from 1 (held records.now) }
-    ensures bound { IfOk result (λ cycle. cycle ≤ longest_cycle) }
+// The least common multiple of all periods and spans. A loop, since as a `try_fold` each step would need a clause that bounds
+// it.
+fn cycle_of(records: &Records<'_>) -> Result<Cycle, AdmissionFault>
+    ensures value { Gives (λ cycle. cycle.slots) result (cycle_from 1 (held records.now)) }
 {
-    let mut cycle = 1;
+    let mut slots = 1;
     for record in records.as_slice() {
-        let grown = common_multiple(cycle, length_of(*record));
+        let grown = common_multiple(Cycle { slots }, length_of(*record));
         if grown > LONGEST_CYCLE {
             return Err(AdmissionFault::Cycle { at: record.at() });
         }
-        cycle = grown;
+        slots = grown;
     }
-    Ok(cycle)
+    Ok(Cycle { slots })
 }
 
-// The slots that all polls and lanes take of a cycle.
-fn load_of(records: &Records<'_>, cycle: u64) -> u64
-    requires short { cycle ≤ longest_cycle }
-    ensures value { result ≡ load_in cycle (held records.now) }
+// The slots that all polls and lanes take of a cycle. A loop, since a `sum` would need a clause that bounds it.
+fn load_of(records: &Records<'_>, cycle: Cycle) -> u64
+    ensures value { result ≡ load_in cycle.slots (held records.now) }
 {
     let mut load = 0;
     for record in records.as_slice() {
-        load += share_of(*record) * (cycle / length_of(*record));
+        load += share_of(*record) * (cycle.slots / length_of(*record));
     }
     load
 }
@@ -66,7 +68,7 @@ fn load_of(records: &Records<'_>, cycle: u64) -> u64
 // Reads a sheet, adds up its load and its cycle, and answers both as a pair, which is how a verdict is told; a sheet that is
 // admitted fills the table, and a refusal leaves it as it was.
 #[tactic(auto, using(crate::proofs::Verdicts::admission_laws))]
-pub fn admit(bytes: &[u8], table: &mut Table) -> Result<(u64, u64), AdmissionFault>
+pub fn admit(bytes: &[u8], table: &mut Table) -> Verdict
     ensures answer { result ≡ admit_sheet bytes.now }
     ensures fills { contents table.new ≡ fill_table bytes.now (contents table.old) }
     ensures stays { OnErr result (table.new ≡ table.old) }
@@ -74,8 +76,9 @@ pub fn admit(bytes: &[u8], table: &mut Table) -> Result<(u64, u64), AdmissionFau
 {
     let mut records = Records::new();
     sheet::read(bytes, &mut records)?;
-    let cycle = cycle_of(&records)?;
-    let load = load_of(&records, cycle);
+    let found = cycle_of(&records)?;
+    let load = load_of(&records, found);
+    let cycle = found.slots;
     if load > cycle {
         return Err(AdmissionFault::Load { load, cycle });
     }

@@ -4,7 +4,8 @@ ghost use Rattle.std.specs.List.{slice_get};
 
 use std::alloc::AllocError;
 
-// The first `count` of its places are taken.
+// An array with a count, for memory without a heap: the first `count` of its places are taken. The toolchain's `ArrayVec` is
+// not `Copy`, as a table is, and its `clone` may fail.
 #[derive(Copy)]
 pub struct Few<T, const N: usize> {
     places: [T; N],
@@ -13,6 +14,7 @@ pub struct Few<T, const N: usize> {
     ghost within: { count ≤ N },
 }
 
+// By hand, since `Clone` cannot be derived over ghost fields.
 impl<T: Copy, const N: usize> Clone for Few<T, N> {
     ghost is_clone = { λ few copy. copy ≡ few };
 

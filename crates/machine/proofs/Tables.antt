@@ -2,12 +2,12 @@
 use Rattle.std.proofs.Common.{◌≡◌, ℕ, ◌+◌, ◌*◌, ◌/◌, ◌<◌, ◌≤◌, Bool, true, List, [], ◌∷◌, ◌++◌, map, length, sym, ap, subst, arith}
 use Rattle.std.specs.Int.{◌∣◌}
 use Rattle.std.proofs.Math.Nat.{mul-div_cancel'}
-use Rattle.std.specs.List.{AllByRecursion}
+use Rattle.std.specs.List.{AllByRecursion, list_all}
 use Rattle.std.proofs.lemmas.Bool.{and_parts}
 use Rattle.std.proofs.lemmas.Bool.Decides.{nat_tests}
 use Rattle.admission.specs.declared.table.Poll.{Poll}
 use Rattle.admission.specs.declared.table.Lane.{Lane}
-use Rattle.admission.specs.Limits.{poll_fits, lane_fits, all_fit}
+use Rattle.admission.specs.Limits.{poll_fits, lane_fits}
 use Rattle.admission.specs.Demand.{poll_slots, lane_slots}
 use Rattle.admission.specs.Sums.{sum_of}
 use Rattle.admission.specs.Contents.{Contents, Admissible}
@@ -52,9 +52,9 @@ poll_numbers poll h = record { some_period = grind (arith, nat_tests); some_budg
 lane_numbers : (lane : Lane) → lane_fits lane ≡ true → LaneNumbers lane
 lane_numbers lane h = record { some_span = grind (arith, nat_tests); some_quota = grind (arith, nat_tests) }
 
-all_pass : {X : Type 0} (fits : X → Bool) (P : X → Type 0) → ((x : X) → fits x ≡ true → P x) → (xs : List X) → all_fit fits xs ≡ true → AllByRecursion P xs
+all_pass : {X : Type 0} (fits : X → Bool) (P : X → Type 0) → ((x : X) → fits x ≡ true → P x) → (xs : List X) → list_all fits xs ≡ true → AllByRecursion P xs
 all_pass fits P f [] h = tt
-all_pass fits P f (x ∷ xs) h = let p = and_parts (fits x) (all_fit fits xs) h in (f x p.0, all_pass fits P f xs p.1)
+all_pass fits P f (x ∷ xs) h = let p = and_parts (fits x) (list_all fits xs) h in (f x p.0, all_pass fits P f xs p.1)
 
 poll_laws : (cycle : ℕ) (polls : List Poll) → AllByRecursion PollNumbers polls → CommonMultiple (map (λ poll. poll.period) polls) cycle → AllByRecursion (PollLaws cycle) polls
 poll_laws cycle [] n d = tt

@@ -30,7 +30,7 @@ pub enum Call {
 pub enum Reply {
     // a request gets this deadline
     Deadline(u32),
-    // a slot is open; its token has these four numbers
+    // a slot is open; its token has these four numbers, as the rules give them: an idle slot has owner 255 and deadline 0
     Granted {
         unit: u8,
         slot: u32,

@@ -35,6 +35,7 @@ pub enum Refusal {
 }
 
 impl Refusal {
+    // A method and no `u8::from`, since its name says what the number is.
     pub fn number(self) -> u8
         ensures value { result ≡ refusal_number self }
     {

@@ -5,7 +5,7 @@ ghost use Rattle.std.specs.Prelude.{◌≡◌, is_ok, IfOk};
 ghost use Rattle.admission.specs.Verdict.{admit_sheet};
 ghost use Rattle.notice.specs.Pages.{known_cycle, page_of};
 
-use admission::{AdmissionFault, Table};
+use admission::{AdmissionFault, Table, Verdict};
 use std::alloc::{AllocError, Global};
 
 mod line;
@@ -19,11 +19,11 @@ use verdict::verdict_lines;
 #[derive(Drop)]
 pub struct Notice {
     pub text: Vec<u8>,
-    pub verdict: Result<(u64, u64), AdmissionFault>,
+    pub verdict: Verdict,
 }
 
 // The cycle, where the admission came to one.
-fn known_cycle(verdict: Result<(u64, u64), AdmissionFault>) -> Option<u64>
+fn known_cycle(verdict: Verdict) -> Option<u64>
     ensures value { result ≡ known_cycle verdict }
 {
     match verdict {

@@ -7,6 +7,7 @@ ghost use Rattle.notice.specs.Pages.{phase_text, slots_text, entry_line};
 
 use admission::{length_of, share_of};
 use sheet::Record;
+use sheet::header::LONGEST_NAME;
 use std::alloc::{AllocError, Global};
 
 // A name, filled up with spaces to the 12 bytes of the longest.
@@ -14,7 +15,7 @@ fn name_column(heap: Global, name: &[u8]) -> Result<Vec<u8>, AllocError>
     ensures bytes { IfOk result (λ column. column.items ≡ at_left 12 name.now) }
 {
     let mut column = Vec::from_slice(heap, name)?;
-    column.resize(name.len().max(12), b' ')?;
+    column.resize(name.len().max(LONGEST_NAME), b' ')?;
     Ok(column)
 }
 

@@ -9,6 +9,9 @@ use crate::line::entry_line;
 use sheet::{Record, Records};
 use std::alloc::{AllocError, Global};
 
+// The owner number of lane 0; that of poll 0 is 0.
+const FIRST_LANE: u64 = 32;
+
 // The owner numbers of the next poll and of the next lane.
 #[derive(Drop)]
 struct Owners {
@@ -51,7 +54,7 @@ fn entry_lines(
     let mut lines = Vec::new(heap);
     let mut owners = Owners {
         next_poll: 0,
-        next_lane: 32,
+        next_lane: FIRST_LANE,
     };
     for record in records.as_slice() {
         let owner = owners.next_for(*record);

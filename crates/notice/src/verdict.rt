@@ -1,8 +1,8 @@
-// The verdict in words: the first line, and the ground of a refusal.
+// The verdict in words.
 ghost use Rattle.std.specs.Prelude.{◌≡◌, IfOk, string_bytes};
 ghost use Rattle.notice.specs.Pages.{refused_line, verdict_lines};
 
-use admission::AdmissionFault;
+use admission::Verdict;
 use sheet::Diagnosis;
 use std::alloc::{AllocError, Global};
 
@@ -13,10 +13,7 @@ fn refused_line(heap: Global, told: Diagnosis) -> Result<String, AllocError>
 }
 
 // The first line, and the ground of a refusal.
-pub(crate) fn verdict_lines(
-    heap: Global,
-    verdict: Result<(u64, u64), AdmissionFault>,
-) -> Result<String, AllocError>
+pub(crate) fn verdict_lines(heap: Global, verdict: Verdict) -> Result<String, AllocError>
     ensures bytes { IfOk result (λ lines. string_bytes lines ≡ verdict_lines verdict) }
 {
     match verdict {

@@ -9,6 +9,7 @@ pub enum PutRefusal {
 }
 
 impl PutRefusal {
+    // A method and no `u8::from`, since its name says what the number is.
     pub fn number(self) -> u8
         ensures value { result ≡ put_number self }
     {

@@ -12,7 +12,7 @@ pub trait ReadyQueue {
     // the jobs that it holds, in order
     ghost bag: { Self → List Job };
 
-    // for how many jobs there is a place
+    // for how many jobs there is a place; every call keeps it, and says so: no field ties before a call to after it
     ghost places: { Self → ℕ };
 
     // the ghost name of what was lent to it, and 0 where it owns its memory; every call keeps it, so that whoever lends a

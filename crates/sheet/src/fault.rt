@@ -29,7 +29,7 @@ impl fmt::Display for Layer {
 }
 
 // What a fault is told by: its number, the byte of the sheet that it lies at, and its layer. The rules tell a refusal by a
-// number, and a case that holds a byte or another fault can have no discriminant, so `diagnosis` gives it by case.
+// number. A case that holds a byte or another fault can have no discriminant, so a record's fault gives its number by case.
 #[derive(Clone, Copy, Debug, PartialEq, Eq)]
 pub struct Diagnosis {
     pub number: u8,
@@ -54,16 +54,16 @@ impl fmt::Display for Diagnosis {
 #[derive(Clone, Copy, Debug, PartialEq, Eq)]
 pub enum ByteFault {
     // fewer than five bytes, or a length that does not lie from 5 to the bytes given
-    Length,
+    Length = 10,
     // another version than 1
-    Version,
+    Version = 11,
     // too many polls or lanes, or none of either
-    Counts,
+    Counts = 12,
 }
 
 impl Error for ByteFault {}
 
-// What is asked, and was answered with no.
+// The ground, in words.
 impl fmt::Display for ByteFault {
     ghost output = { λ fault. Some (byte_ground fault) };
 
@@ -96,22 +96,29 @@ pub enum RecordFault {
 
 impl Error for RecordFault {}
 
+// The ground, in words.
 impl fmt::Display for RecordFault {
     ghost output = { λ fault. Some (record_ground fault) };
 
     fn fmt<W: fmt::Write>(&self, f: &mut fmt::Formatter<W>) -> fmt::Result {
-        let ground = match self {
-            RecordFault::Bytes(fault) => return fault.fmt(f),
-            RecordFault::Letter { .. } =>
+        match self {
+            RecordFault::Bytes(fault) => fault.fmt(f),
+            RecordFault::Letter { .. } => f.write_str(
                 "the letter of a record is missing or not the one due, P for polls and then L for lanes",
-            RecordFault::NameLength { .. } =>
+            ),
+            RecordFault::NameLength { .. } => f.write_str(
                 "the length of a name is missing or not from 1 to 12, or the record does not end inside the sheet",
-            RecordFault::Name { .. } =>
+            ),
+            RecordFault::Name { .. } => f.write_str(
                 "a name has something else than a to z and 0 to 9, or an earlier record has that name",
-            RecordFault::Numbers { .. } => "a number of a record is outside its limits",
-            RecordFault::Ending { .. } => "the last record does not end at the length of the sheet",
-        };
-        f.write_str(ground)
+            ),
+            RecordFault::Numbers { .. } => f.write_str(
+                "a number of a record is outside its limits",
+            ),
+            RecordFault::Ending { .. } => f.write_str(
+                "the last record does not end at the length of the sheet",
+            ),
+        }
     }
 }
 
@@ -128,13 +135,13 @@ impl ByteFault {
     pub fn diagnosis(self) -> Diagnosis
         ensures told { result ≡ byte_diagnosis self }
     {
-        let (number, byte) = match self {
-            ByteFault::Length => (10, 0),
-            ByteFault::Version => (11, 2),
-            ByteFault::Counts => (12, 3),
+        let byte = match self {
+            ByteFault::Length => 0,
+            ByteFault::Version => 2,
+            ByteFault::Counts => 3,
         };
         Diagnosis {
-            number,
+            number: self as u8,
             byte,
             layer: Layer::Bytes,
         }

@@ -12,6 +12,9 @@ pub const MOST_POLLS: usize = 32;
 
 pub const MOST_LANES: usize = 8;
 
+// The longest name, in bytes.
+pub const LONGEST_NAME: usize = 12;
+
 // What the header says, once its three questions are answered with yes.
 #[derive(Clone, Copy, Debug, PartialEq, Eq)]
 pub struct Header {

@@ -5,7 +5,7 @@ ghost use Rattle.sheet.specs.Records.{letter_of, numbers_size, kind_at};
 
 use std::fmt;
 
-// The polls of a sheet come before its lanes.
+// A record is of a poll or of a lane. The polls of a sheet come before its lanes.
 #[derive(Clone, Copy, Debug, PartialEq, Eq)]
 pub enum Kind {
     Poll,
@@ -44,7 +44,7 @@ impl Kind {
     pub(crate) fn has_letter(self, byte: u8) -> bool
         ensures value { result ≡ (byte == letter_of self) }
     {
-        match byte as char {
+        match char::from(byte) {
             'P' => self == Kind::Poll,
             'L' => self == Kind::Lane,
             _ => false,

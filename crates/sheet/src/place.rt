@@ -7,12 +7,11 @@ ghost use Rattle.sheet.specs.Records.{numbers_size, is_plain_byte, is_plain, is_
 ghost use Rattle.sheet.specs.Reading.{name_at, entry_of, entry_at, Gives};
 
 use super::fault::RecordFault;
+use super::header::LONGEST_NAME;
 use super::kind::Kind;
 use super::record::Record;
 
-// The longest name, the latest phase, and the longest period or span.
-const LONGEST_NAME: usize = 12;
-
+// The latest phase, and the longest period or span.
 const LATEST_PHASE: u16 = 10_000;
 
 const LONGEST_SPAN: u16 = 10_000;
@@ -20,7 +19,7 @@ const LONGEST_SPAN: u16 = 10_000;
 fn is_plain_byte(byte: u8) -> bool
     ensures value { result ≡ is_plain_byte byte }
 {
-    matches!(byte as char, 'a'..='z' | '0'..='9')
+    matches!(char::from(byte), 'a'..='z' | '0'..='9')
 }
 
 fn is_plain(name: &[u8]) -> bool

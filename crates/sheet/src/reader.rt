@@ -35,11 +35,12 @@ fn read_records<'a>(
 {
     let mut list = Few::new(NO_RECORD);
     let mut at = HEADER_BYTES;
+    // by number, since the number of a record decides its kind
     for i in 0..header.polls + header.lanes {
         let kind = Kind::due(header.polls, i);
         let record = Place { sheet, at }.record(kind, list.as_slice())?;
-        let placed = list.push(record);
-        prove!(placed.is_ok());
+        let placed = list.push(record).is_ok();
+        prove!(placed);
         at = record.end();
     }
     if at != sheet.len() {

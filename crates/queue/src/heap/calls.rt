@@ -9,7 +9,8 @@ use super::Heap;
 use pile::{Pile, PutRefusal};
 
 impl<'a> Heap<'a> {
-    // An empty queue over the area, which is left as it was. Its places are the area's, or 65,535 of a longer one.
+    // An empty queue over the area, which is left as it was. Its places are the area's, or 65,535 of a longer one. Clauses name
+    // the area before and after the call, so that its lender learns what becomes of it.
     #[tactic(auto, using(pile::proofs::Inserting::sorted_none))]
     pub fn new(area: &'a mut [Job]) -> Heap<'a>
         ensures bag { heap_bag result ≡ [] }

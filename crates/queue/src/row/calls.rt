@@ -10,7 +10,8 @@ use super::insert::insert;
 use pile::{PutRefusal, area};
 
 impl<'a> Row<'a> {
-    // An empty queue over the area, which is left as it was. Its places are the area's, or 65,535 of a longer one.
+    // An empty queue over the area, which is left as it was. Its places are the area's, or 65,535 of a longer one. Clauses name
+    // the area before and after the call, so that its lender learns what becomes of it.
     #[tactic(auto, unfolding(pile::specs::Sorted::sorted))]
     pub fn new(area: &'a mut [Job]) -> Row<'a>
         ensures bag { row_bag result ≡ [] }

@@ -1,5 +1,5 @@
 -- The records of a sheet that was read make an admissible table.
-use Rattle.std.proofs.Common.{◌≡◌, Ok, sym, arith, rules}
+use Rattle.std.proofs.Common.{◌≡◌, Ok, arith, rules}
 use Rattle.sheet.specs.Held.{held}
 use Rattle.sheet.specs.Reading.{read_sheet}
 use Rattle.admission.proofs.Tabled.{admissible_records}
@@ -9,4 +9,4 @@ pub holding-requires : goal.holding-requires
 holding-requires c =
     let known : read_sheet c.args.bytes.now ≡ Ok (held c.read.new.records) = search rules in
     let well = c.read.ensures.laws.well_read _ known in
-    record { admissible = admissible_records _ _ _ _ well (sym c.in_ok-cycle.ensures.value) c.load_of-load.ensures.value (omega arith) }
+    record { admissible = admissible_records _ _ _ _ well c.in_ok-found.ensures.value c.load_of-load.ensures.value (omega arith) }

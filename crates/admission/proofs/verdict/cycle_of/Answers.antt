@@ -7,7 +7,7 @@ use Rattle.admission.proofs.verdict.cycle_of.Goals as goal
 pub loop-record-preserved : goal.loop-record-preserved
 loop-record-preserved c =
     let h = sized_more _ _ _ c.loop-record-test.true _ _ c.length_of.ensures.value refl c.loop-record.invariant.2 in
-    let some = multiple_pos c.loop-record.cycle c.length_of.result c.loop-record.invariant.0 h.0.some in (
+    let some = multiple_pos c.loop-record.slots c.length_of.result c.loop-record.invariant.0 h.0.some in (
       subst (λ n. 0 < n) (sym c.common_multiple-grown.ensures.value) some,
       omega arith,
       h.1,

@@ -10,7 +10,7 @@ use Rattle.admission.proofs.verdict.cycle_of.Given as goal
 
 abbrev pub invariant-loop-record : goal.invariant-loop-record
 invariant-loop-record l =
-    (0 < l.cycle)
-    × (l.cycle ≤ longest_cycle)
+    (0 < l.slots)
+    × (l.slots ≤ longest_cycle)
     × AllByRecursion WithinLimits (map seen (drop l.record-index l.record-items))
-    × (cycle_from l.cycle (map seen (drop l.record-index l.record-items)) ≡ cycle_from 1 (held l.records))
+    × (cycle_from l.slots (map seen (drop l.record-index l.record-items)) ≡ cycle_from 1 (held l.records))

@@ -11,4 +11,4 @@ abbrev pub invariant-loop-record : goal.invariant-loop-record
 invariant-loop-record l =
     (l.load ≤ 10000000000000 * l.record-index)
     × AllByRecursion WithinLimits (map seen (drop l.record-index l.record-items))
-    × (l.load + load_in l.cycle (map seen (drop l.record-index l.record-items)) ≡ load_in l.cycle (held l.records))
+    × (l.load + load_in l.cycle.slots (map seen (drop l.record-index l.record-items)) ≡ load_in l.cycle.slots (held l.records))

@@ -15,8 +15,8 @@ returns-in_err-record c =
 pub loop-i-preserved : goal.loop-i-preserved
 loop-i-preserved c =
     let list = elements c.loop-i.list in
-    let pushed : elements c.push-placed.new.self ≡ elements c.loop-i.list ++ (c.in_ok-record.record ∷ []) = search rules in
-    let grown : map seen (elements c.push-placed.new.self) ≡ map seen (elements c.loop-i.list) ++ (seen c.in_ok-record.record ∷ []) = ap (map seen) pushed ∙ map_push seen list c.in_ok-record.record in (
+    let pushed : elements c.push.new.self ≡ elements c.loop-i.list ++ (c.in_ok-record.record ∷ []) = search rules in
+    let grown : map seen (elements c.push.new.self) ≡ map seen (elements c.loop-i.list) ++ (seen c.in_ok-record.record ∷ []) = ap (map seen) pushed ∙ map_push seen list c.in_ok-record.record in (
       ap length pushed ∙ length_push list c.in_ok-record.record ∙ ap (λ n. n + 1) c.loop-i.invariant.0,
       rw grown (sym (turn_more _ _ _ _ _ _ _ c.loop-i-test.true c.due-kind.ensures.value _ _ (search rules) c.end-at.ensures.value) ∙ c.loop-i.invariant.1),
     )
