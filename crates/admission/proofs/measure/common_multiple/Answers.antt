@@ -1,24 +1,15 @@
--- Of the product's factors, the quotient is at most the cycle.
-use Rattle.std.proofs.Common.{◌≡◌, ℕ, ◌*◌, ◌/◌, ◌≤◌, sym, ap, subst, mul-le-mul, div-le_self, arith}
-use native.Mathlib.Nat.{pos_of_dvd_of_pos}
-use Rattle.admission.specs.Measure.{multiple_of, LeastCommonMultiple}
+-- The common measure is that of the definition, and so is the multiple.
+use Rattle.std.proofs.Common.{◌≡◌, ℕ, ◌*◌, ◌/◌, sym, ap, subst}
+use Rattle.admission.specs.Measure.{measure_of, multiple_of, LeastCommonMultiple}
 use Rattle.admission.proofs.Measures.{multiple_least}
 use Rattle.admission.proofs.measure.common_multiple.Goals as goal
 
-pub nonzero_div-result : goal.nonzero_div-result
-nonzero_div-result c = pos_of_dvd_of_pos c.common_measure.ensures.greatest.0 c.args.cycle.some
-
-product : (slots measure length : ℕ) → slots ≤ 1000000000 → length ≤ 10000 → slots / measure * length ≤ 10000000000000
-product slots measure length short within =
-    let less = div-le_self slots measure in
-    let quotient : slots / measure ≤ 1000000000 = omega arith in
-    mul-le-mul quotient within
-
-pub overflow_mul-result : goal.overflow_mul-result
-overflow_mul-result c = omega (arith, product c.args.cycle.slots c.common_measure.result c.args.length c.args.cycle.short c.requires.within)
-
-pub returns : goal.returns
+same : (slots length measure : ℕ) → measure ≡ measure_of slots length → slots / measure * length ≡ multiple_of slots length
 unfolding multiple_of
-returns c =
-    let same : c.args.cycle.slots / c.common_measure.result * c.args.length ≡ multiple_of c.args.cycle.slots c.args.length = ap (λ g. c.args.cycle.slots / g * c.args.length) c.common_measure.ensures.value in
-    record { value = same; least = subst (LeastCommonMultiple _ _) (sym same) (multiple_least _ _ c.args.cycle.some); bound = product c.args.cycle.slots c.common_measure.result c.args.length c.args.cycle.short c.requires.within }
+same slots length measure is = ap (λ g. slots / g * length) is
+
+pub returns-clause-value : goal.returns-clause-value
+returns-clause-value c = same _ _ _ c.common_measure.ensures.value
+
+pub returns-clause-least : goal.returns-clause-least
+returns-clause-least c = subst (LeastCommonMultiple _ _) (sym (same _ _ _ c.common_measure.ensures.value)) (multiple_least _ _ c.args.cycle.some)
