@@ -1,0 +1,2 @@
+pub mod Recents
+pub mod Deadlines
