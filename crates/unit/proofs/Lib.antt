@@ -1,1 +1,4 @@
 pub mod Recents
+pub mod Folds
+pub mod NextRelease
+pub mod Releasing

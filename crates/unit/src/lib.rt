@@ -3,6 +3,9 @@
 #![tactic(auto)]
 
 mod recent;
+mod releases;
 pub mod token;
+pub mod unit;
 
 pub use token::Token;
+pub use unit::Unit;
