@@ -2,3 +2,5 @@ pub mod Recents
 pub mod Folds
 pub mod NextRelease
 pub mod Releasing
+pub mod Piling
+pub mod Requests

@@ -5,7 +5,7 @@ use Rattle.std.specs.List.{slice_rotate_right}
 use Rattle.std.proofs.lemmas.Bool.{cases_lt, lt-ltb}
 use Rattle.machine.specs.Limits.{most_ahead, slots_in_all}
 use Rattle.machine.specs.Lanes.{ahead, clock_of}
-use Rattle.unit.specs.Recents.{longest_reach, GoesOn, Chained}
+use Rattle.unit.specs.Recents.{longest_reach, latest_deadline, GoesOn, Chained}
 
 -- the eight places, turned by one and the first written
 turned : (xs : List ℕ) (d : ℕ) → length xs ≡ 8 → set (drop 7 xs ++ take 7 xs) 0 d ≡ d ∷ take 7 xs
@@ -54,5 +54,5 @@ near_by (suc n) (d ∷ ds) slot s c h = ⊎_elim (come (λ less. near_by n ds sl
         omega (arith, c 0 (omega arith))
 
 -- while fewer than eight lie past the slot, the newest is near
-pub near : (ds : List ℕ) (slot : ℕ) → Chained ds → slot ≤ slots_in_all → ahead slot ds < most_ahead → clock_of ds ≤ 800000000
-near ds slot c s h = let n = near_by 8 ds slot s c h in omega arith
+pub near : (ds : List ℕ) (slot : ℕ) → Chained ds → slot ≤ slots_in_all → ahead slot ds < most_ahead → clock_of ds + longest_reach ≤ latest_deadline
+near ds slot c s h = near_by 8 ds slot s c h

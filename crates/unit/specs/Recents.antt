@@ -6,6 +6,10 @@ use Rattle.machine.specs.Limits.{most_ahead, slots_in_all}
 abbrev pub longest_reach : ℕ
 longest_reach = 100000000
 
+-- no deadline is later: at most eight requests reach past the last slot
+abbrev pub latest_deadline : ℕ
+latest_deadline = 900000000
+
 -- a deadline goes on from a slot, or from the deadline before it, which is the next in the list (0 where there is none)
 abbrev pub GoesOn : List ℕ → ℕ → Type 0
 GoesOn before deadline = deadline ≤ max slots_in_all (slice_index before 0) + longest_reach

@@ -1,8 +1,8 @@
 // The last deadlines that a lane accepted, at most eight, the newest first.
-ghost use Rattle.std.specs.Prelude.{◌≡◌, ◌≤◌, [], ◌∷◌, length, take};
+ghost use Rattle.std.specs.Prelude.{◌≡◌, ◌+◌, ◌<◌, ◌≤◌, max, [], ◌∷◌, length, take};
 ghost use Rattle.machine.specs.Lanes.{ahead, clock_of};
-ghost use Rattle.machine.specs.Limits.{most_ahead};
-ghost use Rattle.unit.specs.Recents.{Chained, GoesOn};
+ghost use Rattle.machine.specs.Limits.{most_ahead, slots_in_all};
+ghost use Rattle.unit.specs.Recents.{longest_reach, latest_deadline, Chained, GoesOn};
 
 // So many deadlines of a lane may lie past the present slot, and so many are remembered.
 pub const MOST_AHEAD: usize = 8;
@@ -47,6 +47,19 @@ impl Recent {
         ensures value { result ≡ clock_of (deadlines_of self.now) }
     {
         self.deadlines[..self.count].first().copied().unwrap_or(0)
+    }
+
+    // The deadline of a request that reaches so far: it goes on from the later of the slot and the newest deadline. It is less
+    // than 10^9, since fewer than eight lie past the slot.
+    pub(crate) fn deadline(&self, slot: u32, reach: u32) -> u32
+        requires few { ahead slot (deadlines_of self.now) < most_ahead }
+        requires early { slot ≤ slots_in_all }
+        requires short { reach ≤ longest_reach }
+        ensures value { result ≡ max slot (clock_of (deadlines_of self.now)) + reach }
+        ensures bound { result ≤ latest_deadline }
+        ensures goes_on { GoesOn (deadlines_of self.now) result }
+    {
+        slot.max(self.last()) + reach
     }
 
     // Puts a deadline in front; of nine the oldest is forgotten.

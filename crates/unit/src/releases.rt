@@ -1,6 +1,6 @@
 // The next releases of the polls. They are kept as a pile, the earliest first, so that a grant costs nothing for the polls
 // that are not due.
-ghost use Rattle.std.specs.Prelude.{◌≡◌, ◌<◌, nat_le, [], length};
+ghost use Rattle.std.specs.Prelude.{◌≡◌, ◌+◌, ◌<◌, nat_le, [], length};
 ghost use Rattle.pile.specs.Piles.{Piled};
 ghost use Rattle.pile.specs.Sorted.{insert, without_first};
 ghost use Rattle.sheet.specs.Limits.{most_polls};
@@ -42,8 +42,10 @@ pub struct Releases {
 impl Releases {
     ghost use Rattle.unit.specs.Releases.{releases_of, due_count, first_due, InStep};
 
+    #[tactic(auto, using(pile::proofs::Inserting::sorted_none))]
     pub(crate) fn new() -> Releases
         ensures value { releases_of result ≡ [] }
+        ensures count { result.count ≡ 0 }
     {
         Releases {
             area: [Release { slot: 0, poll: 0 }; MOST_POLLS],
@@ -56,13 +58,14 @@ impl Releases {
         ensures value { InStep (releases_of result) (contents table.now).polls 0 }
     {
         let mut releases = Releases::new();
-        for poll in (0..table.poll_count()).rev() {
-            if let Some(row) = table.poll(poll) {
-                releases.put(Release {
-                    slot: u32::from(row.phase),
-                    poll: poll as u8,
-                });
-            }
+        for poll in 0..MOST_POLLS as u8 {
+            let Some(row) = table.poll(usize::from(poll)) else {
+                break;
+            };
+            releases.put(Release {
+                slot: u32::from(row.phase),
+                poll,
+            });
         }
         releases
     }
@@ -71,12 +74,15 @@ impl Releases {
     fn put(&mut self, release: Release)
         requires free { self.old.count < most_polls }
         ensures bag { releases_of self.new ≡ insert earlier release (releases_of self.old) }
+        ensures count { self.new.count ≡ self.old.count + 1 }
     {
-        let placed = area::put(&mut self.area, self.count, release);
-        self.count = placed.unwrap_or(self.count);
+        if let Ok(count) = area::put(&mut self.area, self.count, release) {
+            self.count = count;
+        }
     }
 
     // How many are due at the slot.
+    #[tactic(auto, using(crate::proofs::Releasing::due_sorted))]
     fn due(&self, slot: u32) -> usize
         ensures value { result ≡ due_count slot (releases_of self.now) }
     {

@@ -49,7 +49,7 @@ impl<Q: ReadyQueue> Unit<Q> {
         if recent.ahead(self.slot) >= MOST_AHEAD {
             return Err(Refusal::LaneAhead);
         }
-        let deadline = self.slot.max(recent.last()) + reach(share, budget);
+        let deadline = recent.deadline(self.slot, reach(share, budget));
         let job = Job {
             deadline,
             owner: FIRST_LANE + lane,
