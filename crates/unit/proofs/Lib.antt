@@ -4,3 +4,4 @@ pub mod NextRelease
 pub mod Releasing
 pub mod Piling
 pub mod Requests
+pub mod Opening

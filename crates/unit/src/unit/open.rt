@@ -1,8 +1,9 @@
 // How a unit begins.
-ghost use Rattle.std.specs.Prelude.{◌≡◌};
+ghost use Rattle.std.specs.Prelude.{◌≡◌, IfOk};
 ghost use Rattle.std.specs.Option.{option_map_or};
 ghost use Rattle.admission.specs.Contents.{contents};
-ghost use Rattle.machine.specs.Machine.{unopened, opening, open_refusal};
+ghost use Rattle.machine.specs.Machine.{unopened, opening, open_refusal, set_up};
+ghost use Rattle.machine.specs.Promises.{EveryHistoryKeeps};
 ghost use Rattle.unit.specs.Meaning.{meaning};
 
 use super::super::recent::{MOST_AHEAD, Recent};
@@ -31,10 +32,12 @@ impl<Q: ReadyQueue> Unit<Q> {
         }
     }
 
-    // Opens the unit with a table, of which it keeps a copy, and a number.
+    // Opens the unit with a table, of which it keeps a copy, and a number. From here on every history of calls keeps the
+    // promises, whatever the calls.
     pub fn open(&mut self, table: &Table, unit: u8) -> Result<(), Refusal>
         ensures meaning { meaning Q.bag Q.places self.new ≡ opening (meaning Q.bag Q.places self.old) (contents table.now) unit }
         ensures answer { result ≡ option_map_or Err (open_refusal (meaning Q.bag Q.places self.old) (contents table.now)) (Ok tt) }
+        ensures promises { IfOk result (λ _. EveryHistoryKeeps (set_up (Q.places self.old.queue) (contents table.now) unit)) }
         ensures whose { Q.whose self.new.queue ≡ Q.whose self.old.queue }
     {
         let polls = table.poll_count();
