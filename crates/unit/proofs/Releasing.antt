@@ -2,16 +2,20 @@
 -- end, is gathered from the pile without regard to its order, so it is the same at each step.
 use Rattle.std.proofs.Common.{◌≡◌, ℕ, zero, suc, ◌+◌, ◌<◌, ◌≤◌, Bool, true, false, cond, eqb, ◌⊎◌, inl, inr, List, [], ◌∷◌, Some, None, Option, if◌then◌else◌, map, length, get_or, sym, refl, ap, ◌∙◌, subst, ⊎_elim, arith}
 use Rattle.std.specs.List.{AllByRecursion}
-use Rattle.std.proofs.lemmas.Bool.{cases_Bool, cond_both, cond-true, cond-false, eqb-true, eqb-false, eq-eqb, ne_eqb}
+use Rattle.std.proofs.lemmas.Bool.{cases_Bool, and_parts, cond_both, cond-true, cond-false, eqb-true, eqb-false, eq-eqb, ne_eqb}
 use Rattle.std.proofs.lemmas.Bool.Decides.{nat_tests}
-use Rattle.pile.specs.Sorted.{insert, sorted}
+use Rattle.pile.specs.Sorted.{insert, sorted, without_first}
 use Rattle.pile.proofs.Inserting.{length_insert, insert_none, insert_past, insert_here, sorted_none, sorted_cons}
 use Rattle.pile.proofs.Sorting.{insert_comm, sorted_sorted}
-use Rattle.sheet.proofs.Each.{each_weaker}
+use Rattle.sheet.proofs.Each.{each_at, each_weaker}
+use Rattle.sheet.specs.Limits.{longest_span}
 use Rattle.queue.specs.declared.job.Job.{Job}
 use Rattle.queue.specs.Jobs.{sooner, put_job}
 use Rattle.queue.specs.JobOrder.{sooner_total}
 use Rattle.admission.specs.declared.table.Poll.{Poll}
+use Rattle.admission.specs.declared.table.Table.{Table}
+use Rattle.admission.specs.Contents.{contents}
+use Rattle.admission.specs.Limits.{poll_fits, all_fit}
 use Rattle.admission.specs.Sums.{sum_of}
 use Rattle.machine.specs.Machine.{put_all}
 use Rattle.machine.specs.Polls.{is_released, poll_job, jobs_at}
@@ -293,3 +297,69 @@ ends polls slot places all xs releases bag order none left =
       puts = sym (none_put polls slot bag releases free) ∙ left.puts;
       in_step = order ∙ sym (sorted_sorted earlier earlier_total xs) ∙ ap (sorted earlier) (sym order ∙ sym (none_moved polls slot releases free)) ∙ left.moves;
     }
+
+-- A TURN of the loop
+
+first_by : (slot p : ℕ) (release : Release) (releases : List Release) → cond (is_due slot release) (Some release.poll) None ≡ Some p → (release.slot ≡ slot) × (release.poll ≡ p)
+first_by slot p release releases e = by (cases_Bool (is_due slot release))
+  where
+    by : (is_due slot release ≡ true) ⊎ (is_due slot release ≡ false) → (release.slot ≡ slot) × (release.poll ≡ p)
+    by (inl due) =
+        let some : Some release.poll ≡ Some p = sym (cond-true (is_due slot release) (Some release.poll) None due) ∙ e in
+        (eqb-true release.slot slot due, (let same : release.poll ≡ p = cc in same))
+    by (inr not) =
+        let none : ◌≡◌ {A = Option ℕ} None (Some p) = sym (cond-false (is_due slot release) (Some release.poll) None not) ∙ e in
+        absurd (let z : ◌≡◌ {A = ℕ} 0 1 = cc in omega arith)
+
+-- a turn finds the poll in the table, has a place for its job, and leaves fewer due
+pub record Turned (polls : List Poll) (slot places : ℕ) (all : List Job) (releases : List Release) (bag : List Job) (p : ℕ) : Type 0 where
+  pub known : p < length polls
+  pub some : 0 < length releases
+  pub place : length bag < places
+  pub next : (poll : Poll) → get_or polls p no_poll ≡ poll → Left polls slot places all (insert earlier (record { slot = slot + poll.period; poll = p }) (without_first releases)) (put_job (poll_job slot p poll) bag)
+  pub fewer : (poll : Poll) → get_or polls p no_poll ≡ poll → due_count slot (insert earlier (record { slot = slot + poll.period; poll = p }) (without_first releases)) < due_count slot releases
+
+pub turns : (polls : List Poll) (slot places : ℕ) (all : List Job) (releases : List Release) (bag : List Job) (p : ℕ) → Timed polls → first_due slot releases ≡ Some p → Left polls slot places all releases bag → Turned polls slot places all releases bag p
+turns polls slot places all [] bag p t e left = absurd (let z : ◌≡◌ {A = ℕ} 0 1 = cc in omega arith)
+turns polls slot places all (release ∷ releases) bag p t e left =
+    let at = first_by slot p release releases e in
+    let known : p < length polls = (let k = left.known.0.1 in let q = at.1 in omega arith) in
+    let due : one slot release ≡ 1 = cond-true (is_due slot release) 1 0 (eq-eqb release.slot slot at.0) in
+    let period : 1 ≤ (get_or polls p no_poll).period = each_at (λ poll. 1 ≤ poll.period) polls p no_poll known t in
+    let room = left.places_left in
+    record {
+      known = known;
+      some = omega arith;
+      place = omega arith;
+      next = λ poll is.
+          let period' : 1 ≤ (get_or polls release.poll no_poll).period = subst (λ n. 1 ≤ (get_or polls n no_poll).period) (sym at.1) period in
+          let here : get_or polls release.poll no_poll ≡ poll = ap (λ n. get_or polls n no_poll) at.1 ∙ is in
+          let step = goes_on polls slot places all release releases bag period' at.0 left in
+          let job : poll_job slot release.poll (get_or polls release.poll no_poll) ≡ poll_job slot p poll = (λ i. poll_job slot (at.1 i) (here i)) in
+          let later : after_it polls slot release ≡ record { slot = slot + poll.period; poll = p } = (λ i. record { slot = slot + (here i).period; poll = at.1 i }) in
+          let kept : (a : Release) (b : Job) → after_it polls slot release ≡ a → poll_job slot release.poll (get_or polls release.poll no_poll) ≡ b → Left polls slot places all (insert earlier a releases) (put_job b bag) =
+              λ a b ha hb. subst (λ a'. Left polls slot places all (insert earlier a' releases) (put_job b bag)) ha (subst (λ b'. Left polls slot places all (insert earlier (after_it polls slot release) releases) (put_job b' bag)) hb step) in
+          kept (record { slot = slot + poll.period; poll = p }) (poll_job slot p poll) later job;
+      fewer = λ poll is.
+          let long : 1 ≤ poll.period = subst (λ row. 1 ≤ row.period) is period in
+          let n = due_insert slot (record { slot = slot + poll.period; poll = p }) releases in
+          let gone : one slot (record { slot = slot + poll.period; poll = p }) ≡ 0 = cond-false (eqb (slot + poll.period) slot) 1 0 (ne_eqb (slot + poll.period) slot (λ same. omega arith)) in
+          omega arith;
+    }
+
+period_fits : (poll : Poll) → poll_fits poll ≡ true → 1 ≤ poll.period
+period_fits poll h = grind (arith, nat_tests)
+
+pub longest_period : (poll : Poll) → poll_fits poll ≡ true → poll.period ≤ longest_span
+longest_period poll h = grind (arith, nat_tests)
+
+timed_by : (polls : List Poll) → all_fit poll_fits polls ≡ true → Timed polls
+timed_by [] h = tt
+timed_by (poll ∷ polls) h = let p = and_parts (poll_fits poll) (all_fit poll_fits polls) h in (period_fits poll p.0, timed_by polls p.1)
+
+pub timed : (table : Table) → Timed (contents table).polls
+timed table = timed_by (contents table).polls table.polls_fit
+
+pub same_left : (polls : List Poll) (slot places : ℕ) (all : List Job) (releases releases' : List Release) (bag bag' : List Job) → releases' ≡ releases → bag' ≡ bag → Left polls slot places all releases bag → Left polls slot places all releases' bag'
+same_left polls slot places all releases releases' bag bag' r b left =
+    subst (λ x. Left polls slot places all x bag') (sym r) (subst (λ y. Left polls slot places all releases y) (sym b) left)

@@ -2,7 +2,7 @@
 use Rattle.std.proofs.Common.{◌≡◌, ℕ, zero, suc, ◌+◌, ◌-◌, ◌*◌, ◌/◌, ◌%◌, ◌<◌, ◌≤◌, max, min, Bool, true, false, ◌⊎◌, inl, inr, List, [], ◌∷◌, Some, None, Option, Ok, Err, Result, is_some, if◌then◌else◌, MatchResult, length, get_or, take, set, map, sym, refl, ap, ◌∙◌, subst, ⊎_elim, arith}
 use Rattle.std.specs.Int.{div_ceil}
 use Rattle.std.specs.List.{slice_get, list_all}
-use Rattle.std.specs.Result.{is_err}
+use Rattle.std.specs.Result.{is_ok, is_err}
 use Rattle.std.proofs.lemmas.Nat.{div-mul-add, div-add-mod'}
 use Rattle.std.proofs.Math.Nat.{mod-lt}
 use Rattle.std.proofs.lemmas.List.{length-take-le, get_or-take, get_or-map, map-set}
@@ -79,6 +79,10 @@ written recents n j at recent here l = ap (λ k. map deadlines_of (take n (set r
 pub was_put : (P Q : Type 0) (r : Result (Unit {0}) PutRefusal) → is_err r ≡ false → MatchResult r (λ _. P) (λ _. Q) → P
 was_put P Q (Ok x) e h = h
 was_put P Q (Err x) e h = absurd (let z : ◌≡◌ {A = ℕ} 0 1 = cc in omega arith)
+
+pub was_taken : (P Q : Type 0) (r : Result (Unit {0}) PutRefusal) → is_ok r ≡ true → MatchResult r (λ _. P) (λ _. Q) → P
+was_taken P Q (Ok x) e h = h
+was_taken P Q (Err x) e h = absurd (let z : ◌≡◌ {A = ℕ} 0 1 = cc in omega arith)
 
 pub was_full : (P Q : Type 0) (r : Result (Unit {0}) PutRefusal) → is_err r ≡ true → MatchResult r (λ _. P) (λ _. Q) → Q
 was_full P Q (Err x) e h = h
