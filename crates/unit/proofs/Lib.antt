@@ -5,3 +5,4 @@ pub mod Releasing
 pub mod Piling
 pub mod Requests
 pub mod Opening
+pub mod Granting

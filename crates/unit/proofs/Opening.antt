@@ -1,12 +1,12 @@
 -- A unit that is opened is the machine that is set up and fresh, and every history from there keeps the promises.
-use Rattle.std.proofs.Common.{◌≡◌, ℕ, zero, suc, ◌+◌, ◌*◌, ◌<◌, ◌≤◌, Bool, true, false, List, [], ◌∷◌, Some, None, is_some, if◌then◌else◌, length, take, map, replicate, sym, refl, ap, ◌∙◌, subst, arith}
+use Rattle.std.proofs.Common.{◌≡◌, ℕ, zero, suc, ◌+◌, ◌<◌, ◌≤◌, false, List, [], ◌∷◌, None, is_some, if◌then◌else◌, length, take, map, replicate, sym, refl, ap, ◌∙◌, arith}
 use Rattle.std.proofs.lemmas.List.{length-take-le, nil_from_length}
 use Rattle.std.proofs.lemmas.Bool.Decides.{nat_tests}
 use Rattle.sheet.specs.Limits.{most_polls, most_lanes}
 use Rattle.admission.specs.declared.table.Lane.{Lane}
 use Rattle.admission.specs.declared.table.Table.{Table}
 use Rattle.admission.specs.Contents.{Contents, contents, Admissible}
-use Rattle.machine.specs.Machine.{Setup, State, Machine, set_up, fresh, opening, open_refusal, places_for}
+use Rattle.machine.specs.Machine.{Machine, set_up, fresh, opening, open_refusal, places_for}
 use Rattle.machine.specs.Promises.{EveryHistoryKeeps}
 use Rattle.machine.proofs.EveryHistory.{promises_stand}
 use Rattle.unit.specs.declared.recent.Recent.{Recent}

@@ -1,5 +1,5 @@
 -- The pile of releases: it has one for each poll, and is filled poll by poll.
-use Rattle.std.proofs.Common.{◌≡◌, ℕ, zero, suc, ◌+◌, ◌<◌, ◌≤◌, ◌⊎◌, inl, inr, Some, None, List, [], ◌∷◌, ◌++◌, length, get_or, take, sym, refl, ap, ◌∙◌, subst, arith}
+use Rattle.std.proofs.Common.{◌≡◌, ℕ, suc, ◌+◌, ◌<◌, ◌≤◌, inl, inr, Some, None, List, [], ◌∷◌, ◌++◌, length, get_or, take, sym, refl, ap, ◌∙◌, arith}
 use Rattle.std.proofs.lemmas.List.{length-take-le, take_more, take_all}
 use Rattle.std.proofs.lemmas.Option.{slice_get_cases}
 use Rattle.std.specs.List.{slice_get}
@@ -49,8 +49,8 @@ one_more polls i poll l e =
     let n : 0 + length (take i polls) ≡ i = (let m = length-take-le i polls (omega arith) in omega arith) in
     let at : Release = record { slot = poll.phase; poll = i } in
     let this : next_releases 0 0 (take (i + 1) polls) ≡ next_releases 0 0 (take i polls) ++ at ∷ [] =
-        ap (next_releases 0 0) (take_more polls i poll l ∙ ap (λ p. take i polls ++ p ∷ []) (sym e)) ∙ next_push 0 0 (take i polls) poll
-        ∙ (λ k. next_releases 0 0 (take i polls) ++ record { slot = first_release poll k; poll = n k } ∷ []) in
+    ap (next_releases 0 0) (take_more polls i poll l ∙ ap (λ p. take i polls ++ p ∷ []) (sym e)) ∙ next_push 0 0 (take i polls) poll
+    ∙ (λ k. next_releases 0 0 (take i polls) ++ record { slot = first_release poll k; poll = n k } ∷ []) in
     ap (sorted earlier) this ∙ sorted_push earlier earlier_total (next_releases 0 0 (take i polls)) at
 
 -- what is not found lies past the end

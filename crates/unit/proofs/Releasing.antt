@@ -1,6 +1,6 @@
 -- The releases that are due are taken from the pile one by one. What is left to put, and what the pile is to hold in the
 -- end, is gathered from the pile without regard to its order, so it is the same at each step.
-use Rattle.std.proofs.Common.{◌≡◌, ℕ, zero, suc, ◌+◌, ◌<◌, ◌≤◌, Bool, true, false, cond, eqb, ◌⊎◌, inl, inr, List, [], ◌∷◌, Some, None, Option, if◌then◌else◌, map, length, get_or, sym, refl, ap, ◌∙◌, subst, ⊎_elim, arith}
+use Rattle.std.proofs.Common.{◌≡◌, ℕ, suc, ◌+◌, ◌<◌, ◌≤◌, Bool, true, false, cond, eqb, ◌⊎◌, inl, inr, List, [], ◌∷◌, Some, None, Option, if◌then◌else◌, map, length, get_or, sym, refl, ap, ◌∙◌, subst, arith}
 use Rattle.std.specs.List.{AllByRecursion}
 use Rattle.std.proofs.lemmas.Bool.{cases_Bool, and_parts, cond_both, cond-true, cond-false, eqb-true, eqb-false, eq-eqb, ne_eqb}
 use Rattle.std.proofs.lemmas.Bool.Decides.{nat_tests}
@@ -16,7 +16,6 @@ use Rattle.admission.specs.declared.table.Poll.{Poll}
 use Rattle.admission.specs.declared.table.Table.{Table}
 use Rattle.admission.specs.Contents.{contents}
 use Rattle.admission.specs.Limits.{poll_fits, all_fit}
-use Rattle.admission.specs.Sums.{sum_of}
 use Rattle.machine.specs.Machine.{put_all}
 use Rattle.machine.specs.Polls.{is_released, poll_job, jobs_at}
 use Rattle.machine.proofs.Releases.{no_poll}
@@ -338,7 +337,7 @@ turns polls slot places all (release ∷ releases) bag p t e left =
           let job : poll_job slot release.poll (get_or polls release.poll no_poll) ≡ poll_job slot p poll = (λ i. poll_job slot (at.1 i) (here i)) in
           let later : after_it polls slot release ≡ record { slot = slot + poll.period; poll = p } = (λ i. record { slot = slot + (here i).period; poll = at.1 i }) in
           let kept : (a : Release) (b : Job) → after_it polls slot release ≡ a → poll_job slot release.poll (get_or polls release.poll no_poll) ≡ b → Left polls slot places all (insert earlier a releases) (put_job b bag) =
-              λ a b ha hb. subst (λ a'. Left polls slot places all (insert earlier a' releases) (put_job b bag)) ha (subst (λ b'. Left polls slot places all (insert earlier (after_it polls slot release) releases) (put_job b' bag)) hb step) in
+          λ a b ha hb. subst (λ a'. Left polls slot places all (insert earlier a' releases) (put_job b bag)) ha (subst (λ b'. Left polls slot places all (insert earlier (after_it polls slot release) releases) (put_job b' bag)) hb step) in
           kept (record { slot = slot + poll.period; poll = p }) (poll_job slot p poll) later job;
       fewer = λ poll is.
           let long : 1 ≤ poll.period = subst (λ row. 1 ≤ row.period) is period in

@@ -1,5 +1,5 @@
 -- A request step by step: the lane that it asks for, the questions that it passes, and the machine afterwards.
-use Rattle.std.proofs.Common.{◌≡◌, ℕ, zero, suc, ◌+◌, ◌-◌, ◌*◌, ◌/◌, ◌%◌, ◌<◌, ◌≤◌, max, min, Bool, true, false, ◌⊎◌, inl, inr, List, [], ◌∷◌, Some, None, Option, Ok, Err, Result, is_some, if◌then◌else◌, MatchResult, length, get_or, take, set, map, sym, refl, ap, ◌∙◌, subst, ⊎_elim, arith}
+use Rattle.std.proofs.Common.{◌≡◌, ℕ, zero, suc, ◌+◌, ◌-◌, ◌*◌, ◌/◌, ◌%◌, ◌<◌, ◌≤◌, min, true, false, List, [], ◌∷◌, Some, None, Option, Ok, Err, Result, is_some, if◌then◌else◌, MatchResult, length, get_or, take, set, map, sym, ap, ◌∙◌, ⊎_elim, arith}
 use Rattle.std.specs.Int.{div_ceil}
 use Rattle.std.specs.List.{slice_get, list_all}
 use Rattle.std.specs.Result.{is_ok, is_err}
@@ -25,7 +25,7 @@ use Rattle.machine.specs.declared.call.Reply.TheVariants.{Deadline}
 use Rattle.machine.specs.declared.refusal.Refusal.TheVariants.{LaneAhead, QueueFull}
 use Rattle.machine.specs.Limits.{most_budget, most_ahead}
 use Rattle.machine.specs.Lanes.{ahead, lane_job}
-use Rattle.machine.specs.Machine.{Setup, State, Machine, recent_at, refusal_of, new_deadline, moved, answer}
+use Rattle.machine.specs.Machine.{Setup, State, recent_at, refusal_of, new_deadline, moved, answer}
 use Rattle.machine.proofs.Questions.{Asked}
 use Rattle.unit.specs.declared.recent.Recent.{Recent}
 use Rattle.unit.specs.Deadlines.{deadlines_of}

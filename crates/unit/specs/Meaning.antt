@@ -5,7 +5,7 @@ use Rattle.admission.specs.Contents.{contents}
 use Rattle.machine.specs.declared.call.Call.{Call}
 use Rattle.machine.specs.declared.call.Reply.TheVariants.{Deadline, Granted, Reported}
 use Rattle.machine.specs.declared.refusal.Refusal.{Refusal}
-use Rattle.machine.specs.Machine.{Setup, State, Machine, Answer, next, answer}
+use Rattle.machine.specs.Machine.{Machine, Answer, next, answer}
 use Rattle.unit.specs.Deadlines.{deadlines_of}
 use Rattle.unit.specs.declared.token.Token.{Token}
 use Rattle.unit.specs.declared.unit.Unit.{Unit as TheUnit}

@@ -1,5 +1,11 @@
 // The right to one slot. A grant gives it, and a report takes it back; it cannot be copied.
 ghost use Rattle.std.specs.Prelude.{◌≡◌, true, false};
+ghost use Rattle.machine.specs.Machine.{owner_of, deadline_of};
+
+use queue::Job;
+
+// The owner of an idle slot.
+const NOBODY: u8 = 255;
 
 // `taken` says that a report has accepted the token.
 #[derive(Debug)]
@@ -28,9 +34,14 @@ impl Drop for Token {
 }
 
 impl Token {
-    pub(crate) fn new(unit: u8, slot: u32, owner: u8, deadline: u32) -> Token
-        ensures value { result ≡ record { unit = unit; slot = slot; owner = owner; deadline = deadline; taken = false } }
+    // The token of a slot that goes to this job, or is idle.
+    pub(crate) fn new(unit: u8, slot: u32, job: Option<Job>) -> Token
+        ensures value { result ≡ record { unit = unit; slot = slot; owner = owner_of job; deadline = deadline_of job; taken = false } }
     {
+        let (owner, deadline) = match job {
+            Some(job) => (job.owner, job.deadline),
+            None => (NOBODY, 0),
+        };
         Token {
             unit,
             slot,

@@ -15,9 +15,6 @@ use admission::Table;
 use machine::Refusal;
 use queue::{Job, ReadyQueue};
 
-// The owner of an idle slot.
-const NOBODY: u8 = 255;
-
 // Puts the jobs that are released at the slot, and moves the releases of their polls on.
 fn release<Q: ReadyQueue>(queue: &mut Q, releases: &mut Releases, table: &Table, slot: u32)
     requires early { slot < slots_in_all }
@@ -66,10 +63,6 @@ impl<Q: ReadyQueue> Unit<Q> {
         }
         release(&mut self.queue, &mut self.releases, &self.table, self.slot);
         self.is_open = true;
-        let (owner, deadline) = match self.queue.first() {
-            Some(job) => (job.owner, job.deadline),
-            None => (NOBODY, 0),
-        };
-        Ok(Token::new(self.number, self.slot, owner, deadline))
+        Ok(Token::new(self.number, self.slot, self.queue.first()))
     }
 }

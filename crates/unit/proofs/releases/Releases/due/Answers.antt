@@ -1,5 +1,5 @@
 -- The count of the pile's places is that of its bag.
-use Rattle.std.proofs.Common.{◌∙◌, sym, take, arith}
+use Rattle.std.proofs.Common.{take, arith}
 use Rattle.std.proofs.lemmas.List.{at_drop_all}
 use Rattle.unit.specs.Releases.{due_count}
 use Rattle.unit.proofs.Releasing.{due_sorted}

@@ -1,5 +1,5 @@
 -- Each turn passes one poll more, and the loop ends where there is none.
-use Rattle.std.proofs.Common.{◌≡◌, ◌<◌, length, get_or, sym, ◌∙◌, ap, arith}
+use Rattle.std.proofs.Common.{◌<◌, length, sym, ◌∙◌, ap, arith}
 use Rattle.std.proofs.lemmas.Option.{slice_get_within, get_or_from_slice_get}
 use Rattle.pile.specs.Sorted.{insert}
 use Rattle.admission.specs.Contents.{contents}

@@ -1,5 +1,5 @@
 -- What the questions have shown makes the machine that is set up, and its history keeps the promises.
-use Rattle.std.proofs.Common.{◌≡◌, ◌+◌, ◌<◌, ◌≤◌, length, ◌∙◌, sym, arith}
+use Rattle.std.proofs.Common.{◌+◌, ◌<◌, ◌≤◌, length, arith}
 use Rattle.admission.specs.Contents.{contents}
 use Rattle.machine.specs.Machine.{places_for}
 use Rattle.unit.specs.Meaning.{meaning}

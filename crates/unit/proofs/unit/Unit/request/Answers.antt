@@ -1,19 +1,15 @@
 -- The lane that is found is the table's, and what is remembered of it is the machine's.
-use Rattle.std.proofs.Common.{◌≡◌, ℕ, ◌+◌, ◌<◌, ◌≤◌, List, [], ◌∷◌, length, get_or, take, set, map, max, sym, refl, ap, ◌∙◌, subst, arith}
+use Rattle.std.proofs.Common.{◌≡◌, ◌+◌, ◌∷◌, length, take, set, max, sym, ap, ◌∙◌, subst, arith}
 use Rattle.std.specs.Result.{result_ok}
 use Rattle.std.proofs.lemmas.List.{get_or_default}
-use Rattle.queue.specs.Jobs.{put_job}
-use Rattle.admission.specs.declared.table.Lane.{Lane}
 use Rattle.admission.specs.Contents.{contents}
-use Rattle.machine.specs.declared.call.Reply.TheVariants.{Deadline}
-use Rattle.machine.specs.Lanes.{ahead, clock_of, reach, advance}
-use Rattle.machine.specs.Limits.{most_ahead}
-use Rattle.machine.specs.Machine.{Setup, State, lane_at, recent_at, new_deadline}
+use Rattle.machine.specs.Lanes.{ahead, clock_of, reach}
+use Rattle.machine.specs.Machine.{new_deadline}
 use Rattle.machine.proofs.Questions.{Asked}
 use Rattle.unit.specs.Deadlines.{deadlines_of}
 use Rattle.unit.specs.Recents.{GoesOn}
 use Rattle.unit.specs.Meaning.{meaning}
-use Rattle.unit.proofs.Requests.{Found, found, remembered, written, was_put, was_full, lane_ahead, queue_full, requested, answered_with}
+use Rattle.unit.proofs.Requests.{found, remembered, written, was_put, was_full, lane_ahead, queue_full, requested, answered_with}
 use Rattle.unit.proofs.unit.Unit.request.Goals as goal
 
 pub returns-then-ahead-ge-MOST_AHEAD-clause-answer : goal.returns-then-ahead-ge-MOST_AHEAD-clause-answer
@@ -85,8 +81,8 @@ returns g c =
       place = put.0;
     } in
     let due : c.deadline-deadline.result ≡ new_deadline machine.setup machine.state c.args.lane c.args.budget =
-        c.deadline-deadline.ensures.value
-        ∙ (λ i. max unit.slot (clock_of (sym r i)) + (c.reach.ensures.value ∙ ap (λ lane. reach lane c.args.budget) (sym (f.is (record { span = 0; quota = 0 })))) i) in
+    c.deadline-deadline.ensures.value
+    ∙ (λ i. max unit.slot (clock_of (sym r i)) + (c.reach.ensures.value ∙ ap (λ lane. reach lane c.args.budget) (sym (f.is (record { span = 0; quota = 0 })))) i) in
     record {
       meaning = requested machine.setup machine.state c.args.lane c.args.budget c.deadline-deadline.result _ _ _ asked due c.put.ensures.places put.1
           (written unit.recents (length lanes) c.args.lane c.from-at.result c.push.new.self c.from-at.ensures f.within

@@ -1,17 +1,15 @@
 -- Each turn puts the job of the first release that is due, and moves that release on; at the end none is due.
-use Rattle.std.proofs.Common.{◌≡◌, ℕ, ◌+◌, ◌<◌, ◌≤◌, List, length, Some, None, get_or, take, sym, refl, ap, ◌∙◌, subst, arith}
+use Rattle.std.proofs.Common.{ℕ, ◌+◌, ◌<◌, take, sym, refl, ap, ◌∙◌, subst, arith}
 use Rattle.std.specs.List.{slice_get}
 use Rattle.std.proofs.lemmas.Option.{get_or_from_slice_get}
 use Rattle.pile.specs.Sorted.{insert, without_first}
 use Rattle.queue.specs.Jobs.{put_job}
 use Rattle.admission.specs.Contents.{contents}
-use Rattle.machine.specs.Machine.{put_all}
-use Rattle.machine.specs.Polls.{jobs_at, poll_job}
 use Rattle.machine.proofs.Releases.{no_poll}
 use Rattle.unit.specs.ReleaseOrder.{earlier}
 use Rattle.unit.specs.Releases.{releases_of, due_count}
 use Rattle.unit.proofs.Piling.{releases_count, not_found}
-use Rattle.unit.proofs.Releasing.{Left, begins, ends, turns, timed, same_left}
+use Rattle.unit.proofs.Releasing.{begins, ends, turns, timed, same_left}
 use Rattle.unit.proofs.Requests.{was_taken}
 use Rattle.unit.proofs.unit.grant.release.Goals as goal
 

@@ -1,5 +1,5 @@
 -- What is left to put, and what the pile is to hold in the end, stays the same; the releases that are due get fewer.
-use Rattle.std.proofs.Common.{◌≡◌, ℕ, ◌+◌, ◌<◌, ◌≤◌, length}
+use Rattle.std.proofs.Common.{◌≡◌}
 use Rattle.admission.specs.Contents.{contents}
 use Rattle.machine.specs.Machine.{put_all}
 use Rattle.machine.specs.Polls.{jobs_at}

@@ -1,4 +1,4 @@
-use Rattle.std.proofs.Common.{◌∙◌, ◌*◌, ap, sym, arith}
+use Rattle.std.proofs.Common.{◌∙◌, ◌*◌}
 use Rattle.std.specs.Int.{div_ceil}
 use Rattle.unit.proofs.Requests.{rounded_up}
 use Rattle.unit.proofs.unit.request.reach.Goals as goal
