@@ -5,11 +5,11 @@ ghost use Rattle.machine.specs.Limits.{most_ahead, slots_in_all};
 ghost use Rattle.unit.specs.Recents.{longest_reach, latest_deadline, Chained, GoesOn};
 
 // So many deadlines of a lane may lie past the present slot, and so many are remembered.
-pub const MOST_AHEAD: usize = 8;
+pub(crate) const MOST_AHEAD: usize = 8;
 
 // The first `count` of its places are taken.
 #[derive(Clone, Copy, Debug)]
-pub struct Recent {
+pub(crate) struct Recent {
     deadlines: [u32; MOST_AHEAD],
     count: usize,
     ghost size: { length deadlines ≡ most_ahead },
@@ -51,6 +51,7 @@ impl Recent {
 
     // The deadline of a request that reaches so far: it goes on from the later of the slot and the newest deadline. It is less
     // than 10^9, since fewer than eight lie past the slot.
+    #[tactic(auto, using(crate::proofs::Recents::near))]
     pub(crate) fn deadline(&self, slot: u32, reach: u32) -> u32
         requires few { ahead slot (deadlines_of self.now) < most_ahead }
         requires early { slot ≤ slots_in_all }

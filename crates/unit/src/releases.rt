@@ -14,7 +14,7 @@ use sheet::header::MOST_POLLS;
 // Poll number `poll` releases its next job at `slot`. The order of the fields is the order of releases: by slot, then by
 // poll number.
 #[derive(Clone, Copy, Debug, PartialEq, Eq, PartialOrd, Ord)]
-pub struct Release {
+pub(crate) struct Release {
     pub slot: u32,
     pub poll: u8,
 }
@@ -32,7 +32,7 @@ impl Ranked for Release {
 
 // The first `count` places of the area are the pile, one for each poll.
 #[derive(Clone, Copy, Debug)]
-pub struct Releases {
+pub(crate) struct Releases {
     area: [Release; MOST_POLLS],
     count: usize,
     ghost size: { length area ≡ most_polls },
@@ -97,6 +97,7 @@ impl Releases {
 
     // Whether at most so many are due at the slot. They are counted only where fewer places are free than there are polls,
     // since never more are due.
+    #[tactic(auto, using(crate::proofs::Piling::fits_all))]
     pub(crate) fn fit(&self, slot: u32, free: usize) -> bool
         ensures value { result ≡ nat_le (due_count slot (releases_of self.now)) free }
     {

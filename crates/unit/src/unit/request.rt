@@ -20,6 +20,7 @@ const MOST_BUDGET: u16 = 10_000;
 const FIRST_LANE: u8 = 32;
 
 // How far a budget reaches in a lane, rounded up to whole slots.
+#[tactic(auto, using(crate::proofs::Requests::rounded_up))]
 fn reach(lane: Lane, budget: u16) -> u32
     requires some { 1 ≤ lane.quota }
     requires within { lane.span ≤ longest_span }
