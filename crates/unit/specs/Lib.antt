@@ -1,0 +1,5 @@
+pub mod Recents
+pub mod Deadlines
+pub mod ReleaseOrder
+pub mod Releases
+pub mod Meaning
