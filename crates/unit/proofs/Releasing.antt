@@ -15,7 +15,8 @@ use Rattle.queue.specs.JobOrder.{sooner_total}
 use Rattle.admission.specs.declared.table.Poll.{Poll}
 use Rattle.admission.specs.declared.table.Table.{Table}
 use Rattle.admission.specs.Contents.{contents}
-use Rattle.admission.specs.Limits.{poll_fits, all_fit}
+use Rattle.std.specs.List.{list_all}
+use Rattle.admission.specs.Limits.{poll_fits}
 use Rattle.machine.specs.Machine.{put_all}
 use Rattle.machine.specs.Polls.{is_released, poll_job, jobs_at}
 use Rattle.machine.proofs.Releases.{no_poll}
@@ -352,9 +353,9 @@ period_fits poll h = grind (arith, nat_tests)
 pub longest_period : (poll : Poll) → poll_fits poll ≡ true → poll.period ≤ longest_span
 longest_period poll h = grind (arith, nat_tests)
 
-timed_by : (polls : List Poll) → all_fit poll_fits polls ≡ true → Timed polls
+timed_by : (polls : List Poll) → list_all poll_fits polls ≡ true → Timed polls
 timed_by [] h = tt
-timed_by (poll ∷ polls) h = let p = and_parts (poll_fits poll) (all_fit poll_fits polls) h in (period_fits poll p.0, timed_by polls p.1)
+timed_by (poll ∷ polls) h = let p = and_parts (poll_fits poll) (list_all poll_fits polls) h in (period_fits poll p.0, timed_by polls p.1)
 
 pub timed : (table : Table) → Timed (contents table).polls
 timed table = timed_by (contents table).polls table.polls_fit
