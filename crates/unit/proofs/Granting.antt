@@ -18,11 +18,9 @@ use Rattle.unit.specs.Meaning.{called}
 use Rattle.unit.proofs.Releasing.{timed, due_in_step}
 
 -- while no slot is open the releases are in step with the present slot, and as many are due as the machine releases
-pub in_step_now : (releases : List Release) (table : Table) (slot : ℕ) (is_open : Bool) → is_open ≡ false → InStep releases (contents table).polls (upto slot is_open) → InStep releases (contents table).polls slot
-in_step_now releases table slot is_open shut h = subst (λ b. InStep releases (contents table).polls (upto slot b)) shut h
-
-pub as_many : (releases : List Release) (table : Table) (slot : ℕ) → InStep releases (contents table).polls slot → due_count slot releases ≡ length (jobs_at slot 0 (contents table).polls)
-as_many releases table slot h = due_in_step (contents table).polls slot releases (timed table) h
+pub as_many : (releases : List Release) (table : Table) (slot : ℕ) (is_open : Bool) → is_open ≡ false → InStep releases (contents table).polls (upto slot is_open) → due_count slot releases ≡ length (jobs_at slot 0 (contents table).polls)
+as_many releases table slot is_open shut h =
+    due_in_step (contents table).polls slot releases (timed table) (subst (λ b. InStep releases (contents table).polls (upto slot b)) shut h)
 
 -- THE QUESTIONS
 

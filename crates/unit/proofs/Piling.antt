@@ -1,7 +1,7 @@
 -- The pile of releases: it has one for each poll, and is filled poll by poll.
-use Rattle.std.proofs.Common.{◌≡◌, ℕ, suc, ◌+◌, ◌<◌, ◌≤◌, inl, inr, Some, None, List, [], ◌∷◌, ◌++◌, length, get_or, take, sym, refl, ap, ◌∙◌, arith}
+use Rattle.std.proofs.Common.{◌≡◌, ℕ, suc, ◌+◌, ◌<◌, ◌≤◌, inl, inr, Some, None, Option, List, [], ◌∷◌, ◌++◌, length, get_or, take, sym, refl, ap, ◌∙◌, arith}
 use Rattle.std.proofs.lemmas.List.{length-take-le, take_more, take_all}
-use Rattle.std.proofs.lemmas.Option.{slice_get_cases}
+use Rattle.std.proofs.lemmas.Option.{slice_get_cases, get_or_from_slice_get}
 use Rattle.std.specs.List.{slice_get}
 use Rattle.pile.specs.Sorted.{insert, sorted}
 use Rattle.pile.proofs.Inserting.{length_sorted, sorted_none}
@@ -53,12 +53,18 @@ one_more polls i poll l e =
     ∙ (λ k. next_releases 0 0 (take i polls) ++ record { slot = first_release poll k; poll = n k } ∷ []) in
     ap (sorted earlier) this ∙ sorted_push earlier earlier_total (next_releases 0 0 (take i polls)) at
 
--- what is not found lies past the end
-pub not_found : {X : Type 0} (xs : List X) (i : ℕ) → slice_get xs i ≡ None → length xs ≤ i
-not_found xs i e = elim (slice_get_cases xs i).1 [
-  | inl found ↦ absurd (let clash : Some found.0 ≡ None = sym found.2 ∙ e in let z : ◌≡◌ {A = ℕ} 0 1 = cc in omega arith)
+-- what is found under a number, and what is not found lies past the end
+pub found : {X : Type 0} (xs : List X) (i at : ℕ) (d : X) (o : Option X) (x : X) → at ≡ i → o ≡ slice_get xs at → o ≡ Some x → get_or xs i d ≡ x
+found xs i at d o x here read some = get_or_from_slice_get xs i x d (ap (slice_get xs) (sym here) ∙ sym read ∙ some)
+
+not_found_by : {X : Type 0} (xs : List X) (i : ℕ) → slice_get xs i ≡ None → length xs ≤ i
+not_found_by xs i e = elim (slice_get_cases xs i).1 [
+  | inl here ↦ absurd (let clash : Some here.0 ≡ None = sym here.2 ∙ e in let z : ◌≡◌ {A = ℕ} 0 1 = cc in omega arith)
   | inr past ↦ past.0
 ]
+
+pub not_found : {X : Type 0} (xs : List X) (i at : ℕ) (o : Option X) → at ≡ i → o ≡ slice_get xs at → o ≡ None → length xs ≤ i
+not_found xs i at o here read none = not_found_by xs i (ap (slice_get xs) (sym here) ∙ sym read ∙ none)
 
 pub all_passed : (polls : List Poll) (i : ℕ) → length polls ≤ i → sorted earlier (next_releases 0 0 (take i polls)) ≡ sorted earlier (next_releases 0 0 polls)
 all_passed polls i h = ap (λ l. sorted earlier (next_releases 0 0 l)) (take_all i polls h)

@@ -290,12 +290,12 @@ pub record Done (polls : List Poll) (slot : ℕ) (all : List Job) (releases : Li
   pub puts : bag ≡ all
   pub in_step : InStep releases polls (suc slot)
 
-pub ends : (polls : List Poll) (slot places : ℕ) (all : List Job) (xs releases : List Release) (bag : List Job) → releases ≡ sorted earlier xs → first_due slot releases ≡ None → Left polls slot places all releases bag → Done polls slot all releases bag
-ends polls slot places all xs releases bag order none left =
-    let free = none_by slot (length polls) releases none (subst Rising (sym order) (rising_sorted xs)) left.known in
+pub ends : (polls : List Poll) (slot places : ℕ) (all : List Job) (xs : List Release) (bag : List Job) (o : Option ℕ) → o ≡ first_due slot (sorted earlier xs) → o ≡ None → Left polls slot places all (sorted earlier xs) bag → Done polls slot all (sorted earlier xs) bag
+ends polls slot places all xs bag o read none left =
+    let free = none_by slot (length polls) (sorted earlier xs) (sym read ∙ none) (rising_sorted xs) left.known in
     record {
-      puts = sym (none_put polls slot bag releases free) ∙ left.puts;
-      in_step = order ∙ sym (sorted_sorted earlier earlier_total xs) ∙ ap (sorted earlier) (sym order ∙ sym (none_moved polls slot releases free)) ∙ left.moves;
+      puts = sym (none_put polls slot bag (sorted earlier xs) free) ∙ left.puts;
+      in_step = sym (sorted_sorted earlier earlier_total xs) ∙ ap (sorted earlier) (sym (none_moved polls slot (sorted earlier xs) free)) ∙ left.moves;
     }
 
 -- A TURN of the loop
@@ -319,9 +319,9 @@ pub record Turned (polls : List Poll) (slot places : ℕ) (all : List Job) (rele
   pub next : (poll : Poll) → get_or polls p no_poll ≡ poll → Left polls slot places all (insert earlier (record { slot = slot + poll.period; poll = p }) (without_first releases)) (put_job (poll_job slot p poll) bag)
   pub fewer : (poll : Poll) → get_or polls p no_poll ≡ poll → due_count slot (insert earlier (record { slot = slot + poll.period; poll = p }) (without_first releases)) < due_count slot releases
 
-pub turns : (polls : List Poll) (slot places : ℕ) (all : List Job) (releases : List Release) (bag : List Job) (p : ℕ) → Timed polls → first_due slot releases ≡ Some p → Left polls slot places all releases bag → Turned polls slot places all releases bag p
-turns polls slot places all [] bag p t e left = absurd (let z : ◌≡◌ {A = ℕ} 0 1 = cc in omega arith)
-turns polls slot places all (release ∷ releases) bag p t e left =
+turns_by : (polls : List Poll) (slot places : ℕ) (all : List Job) (releases : List Release) (bag : List Job) (p : ℕ) → Timed polls → first_due slot releases ≡ Some p → Left polls slot places all releases bag → Turned polls slot places all releases bag p
+turns_by polls slot places all [] bag p t e left = absurd (let z : ◌≡◌ {A = ℕ} 0 1 = cc in omega arith)
+turns_by polls slot places all (release ∷ releases) bag p t e left =
     let at = first_by slot p release releases e in
     let known : p < length polls = (let k = left.known.0.1 in let q = at.1 in omega arith) in
     let due : one slot release ≡ 1 = cond-true (is_due slot release) 1 0 (eq-eqb release.slot slot at.0) in
@@ -346,6 +346,9 @@ turns polls slot places all (release ∷ releases) bag p t e left =
           let gone : one slot (record { slot = slot + poll.period; poll = p }) ≡ 0 = cond-false (eqb (slot + poll.period) slot) 1 0 (ne_eqb (slot + poll.period) slot (λ same. omega arith)) in
           omega arith;
     }
+
+pub turns : (polls : List Poll) (slot places : ℕ) (all : List Job) (releases : List Release) (bag : List Job) (p : ℕ) (o : Option ℕ) → Timed polls → o ≡ first_due slot releases → o ≡ Some p → Left polls slot places all releases bag → Turned polls slot places all releases bag p
+turns polls slot places all releases bag p o t read some left = turns_by polls slot places all releases bag p t (sym read ∙ some) left
 
 period_fits : (poll : Poll) → poll_fits poll ≡ true → 1 ≤ poll.period
 period_fits poll h = grind (arith, nat_tests)

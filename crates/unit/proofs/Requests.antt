@@ -1,5 +1,5 @@
 -- A request step by step: the lane that it asks for, the questions that it passes, and the machine afterwards.
-use Rattle.std.proofs.Common.{◌≡◌, ℕ, zero, suc, ◌+◌, ◌-◌, ◌*◌, ◌/◌, ◌%◌, ◌<◌, ◌≤◌, min, true, false, List, [], ◌∷◌, Some, None, Option, Ok, Err, Result, is_some, if◌then◌else◌, MatchResult, length, get_or, take, set, map, sym, ap, ◌∙◌, ⊎_elim, arith}
+use Rattle.std.proofs.Common.{◌≡◌, ℕ, zero, suc, ◌+◌, ◌-◌, ◌*◌, ◌/◌, ◌%◌, ◌<◌, ◌≤◌, min, true, false, List, [], ◌∷◌, Some, None, Option, Ok, Err, Result, is_some, IfOk, ok_or, if◌then◌else◌, MatchResult, length, get_or, take, set, map, sym, refl, ap, ◌∙◌, subst, ⊎_elim, arith}
 use Rattle.std.specs.Int.{div_ceil}
 use Rattle.std.specs.List.{slice_get, list_all}
 use Rattle.std.specs.Result.{is_ok, is_err}
@@ -11,7 +11,7 @@ use Rattle.std.proofs.lemmas.Option.{slice_get_within, get_or_from_slice_get}
 use Rattle.std.proofs.lemmas.List.Folds.{list_all_at}
 use Rattle.std.proofs.lemmas.Bool.{cases_Bool, both_ways}
 use Rattle.std.proofs.lemmas.Bool.Decides.{nat_tests}
-use Rattle.sheet.specs.Limits.{longest_span, most_lanes}
+use Rattle.sheet.specs.Limits.{longest_span}
 use Rattle.pile.specs.declared.refusal.PutRefusal.{PutRefusal}
 use Rattle.queue.specs.declared.job.Job.{Job}
 use Rattle.queue.specs.Jobs.{put_job}
@@ -22,7 +22,9 @@ use Rattle.admission.specs.Limits.{lane_fits}
 use Rattle.machine.specs.declared.call.Call.TheVariants.{Request}
 use Rattle.std.specs.Option.{option_map_or}
 use Rattle.machine.specs.declared.call.Reply.TheVariants.{Deadline}
-use Rattle.machine.specs.declared.refusal.Refusal.TheVariants.{LaneAhead, QueueFull}
+use Rattle.machine.specs.declared.refusal.Refusal.{Refusal}
+use Rattle.machine.specs.declared.refusal.Refusal.TheVariants.{NoSuchLane, LaneAhead, QueueFull}
+use Rattle.unit.specs.InTable.{InTable}
 use Rattle.machine.specs.Limits.{most_budget, most_ahead}
 use Rattle.machine.specs.Lanes.{ahead, lane_job}
 use Rattle.machine.specs.Machine.{Setup, State, recent_at, refusal_of, new_deadline, moved, answer}
@@ -41,29 +43,28 @@ rounded_up a b h = by (a / b) (a % b) (div-add-mod' a b) (mod-lt a h)
 
 -- THE LANE
 
-pub record Found (table : Table) (j : ℕ) (lane : Lane) : Type 0 where
-  pub within : j < length (contents table).lanes
-  pub few : length (contents table).lanes ≤ most_lanes
-  pub is : (d : Lane) → get_or (contents table).lanes j d ≡ lane
-  pub span : lane.span ≤ longest_span
-  pub quota : 1 ≤ lane.quota
-
 lane_span : (lane : Lane) → lane_fits lane ≡ true → lane.span ≤ longest_span
 lane_span lane h = grind (arith, nat_tests)
 
 lane_quota : (lane : Lane) → lane_fits lane ≡ true → 1 ≤ lane.quota
 lane_quota lane h = grind (arith, nat_tests)
 
-pub found : (table : Table) (j at : ℕ) (o : Option Lane) (lane : Lane) → at ≡ j → o ≡ slice_get (contents table).lanes at → o ≡ Some lane → Found table j lane
-found table j at o lane here read got =
+in_table_at : (table : Table) (j : ℕ) (lane : Lane) → slice_get (contents table).lanes j ≡ Some lane → InTable table j lane
+in_table_at table j lane some =
     let lanes = (contents table).lanes in
-    let some : slice_get lanes j ≡ Some lane = ap (slice_get lanes) (sym here) ∙ sym read ∙ got in
     let within : j < length lanes = slice_get_within lanes j lane some in
     let is : (d : Lane) → get_or lanes j d ≡ lane = λ d. get_or_from_slice_get lanes j lane d some in
     let fits : lane_fits lane ≡ true = ⊎_elim (λ yes. ap lane_fits (sym (is lane)) ∙ yes) (λ no. absurd (both_ways (list_all lane_fits lanes) (list_all_at lane_fits lanes j lane within no) table.lanes_fit)) (cases_Bool (lane_fits (get_or lanes j lane))) in
     let taken = table.lanes.within in
     let count : length lanes ≡ table.lanes.count = length-take-le table.lanes.count table.lanes.places (let n = table.lanes.size in omega arith) in
     record { within = within; few = omega arith; is = is; span = lane_span lane fits; quota = lane_quota lane fits }
+
+in_table_by : (table : Table) (j : ℕ) (o : Option Lane) → slice_get (contents table).lanes j ≡ o → IfOk (ok_or o NoSuchLane) (λ lane. InTable table j lane)
+in_table_by table j (Some lane) e = in_table_at table j lane e
+in_table_by table j None e = tt
+
+pub in_table : (table : Table) (j : ℕ) (r : Result Lane Refusal) → r ≡ ok_or (slice_get (contents table).lanes j) NoSuchLane → IfOk r (λ lane. InTable table j lane)
+in_table table j r e = subst (λ result. IfOk result (λ lane. InTable table j lane)) (sym e) (in_table_by table j (slice_get (contents table).lanes j) refl)
 
 -- what is remembered of the lane
 pub remembered : (recents : List Recent) (n j at : ℕ) (d : Recent) → at ≡ j → j < n → n ≤ length recents → get_or (map deadlines_of (take n recents)) j [] ≡ deadlines_of (get_or recents at d)

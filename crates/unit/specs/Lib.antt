@@ -2,4 +2,5 @@ pub mod Recents
 pub mod Deadlines
 pub mod ReleaseOrder
 pub mod Releases
+pub mod InTable
 pub mod Meaning

@@ -27,6 +27,7 @@ fn release<Q: ReadyQueue>(queue: &mut Q, releases: &mut Releases, table: &Table,
 {
     while let Some(poll) = releases.first_due(slot) {
         let Some(row) = table.poll(usize::from(poll)) else {
+            // never reached: every poll in the pile is in the table
             return;
         };
         let next = slot + u32::from(row.period);
@@ -62,7 +63,8 @@ impl<Q: ReadyQueue> Unit<Q> {
             return Err(Refusal::NoPlaceForRelease);
         }
         release(&mut self.queue, &mut self.releases, &self.table, self.slot);
+        let first = self.queue.first();
         self.is_open = true;
-        Ok(Token::new(self.number, self.slot, self.queue.first()))
+        Ok(Token::new(self.number, self.slot, first))
     }
 }

@@ -1,6 +1,10 @@
 // What a lane asks.
-ghost use Rattle.std.specs.Prelude.{◌≡◌, ◌≤◌};
+ghost use Rattle.std.specs.Prelude.{◌≡◌, ◌≤◌, IfOk, ok_or};
 ghost use Rattle.sheet.specs.Limits.{longest_span};
+ghost use Rattle.std.specs.List.{slice_get};
+ghost use Rattle.admission.specs.Contents.{contents};
+ghost use Rattle.machine.specs.declared.refusal.Refusal.TheVariants.{NoSuchLane};
+ghost use Rattle.unit.specs.InTable.{InTable};
 ghost use Rattle.machine.specs.declared.call.Call.TheVariants.{Request};
 ghost use Rattle.machine.specs.Lanes.{reach};
 ghost use Rattle.machine.specs.Limits.{most_budget};
@@ -9,7 +13,7 @@ ghost use Rattle.unit.specs.Meaning.{meaning, called, answered, as_deadline};
 
 use super::super::recent::MOST_AHEAD;
 use super::Unit;
-use admission::Lane;
+use admission::{Lane, Table};
 use machine::Refusal;
 use queue::{Job, ReadyQueue};
 
@@ -31,6 +35,15 @@ fn reach(lane: Lane, budget: u16) -> u32
     (u32::from(budget) * u32::from(lane.span)).div_ceil(u32::from(lane.quota))
 }
 
+// What the table gives the lane of that number, if there is such a lane.
+#[tactic(auto, using(crate::proofs::Requests::in_table))]
+fn share_of(table: &Table, lane: u8) -> Result<Lane, Refusal>
+    ensures value { result ≡ ok_or (slice_get (contents table.now).lanes lane) NoSuchLane }
+    ensures found { IfOk result (λ share. InTable table.now lane share) }
+{
+    table.lane(usize::from(lane)).ok_or(Refusal::NoSuchLane)
+}
+
 impl<Q: ReadyQueue> Unit<Q> {
     // A lane asks for so many slots, and learns the deadline.
     pub fn request(&mut self, lane: u8, budget: u16) -> Result<u32, Refusal>
@@ -41,11 +54,11 @@ impl<Q: ReadyQueue> Unit<Q> {
         if self.is_open {
             return Err(Refusal::DuringSlot);
         }
-        let at = usize::from(lane);
-        let share = self.table.lane(at).ok_or(Refusal::NoSuchLane)?;
+        let share = share_of(&self.table, lane)?;
         if budget == 0 || budget > MOST_BUDGET {
             return Err(Refusal::BudgetOutOfRange);
         }
+        let at = usize::from(lane);
         let recent = &self.recents[at];
         if recent.ahead(self.slot) >= MOST_AHEAD {
             return Err(Refusal::LaneAhead);

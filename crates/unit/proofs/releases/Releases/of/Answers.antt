@@ -34,5 +34,5 @@ loop-poll-preserved c =
 pub returns-in_default : goal.returns-in_default
 returns-in_default c =
     let polls = (contents c.args.table.now).polls in
-    let past = not_found polls c.loop-poll.poll (ap (λ k. slice_get polls k) (sym c.from.ensures) ∙ sym c.poll.ensures.value ∙ c.in_default.is) in
+    let past = not_found polls c.loop-poll.poll c.from.result c.poll.result c.from.ensures c.poll.ensures.value c.in_default.is in
     record { value = c.loop-poll.invariant.passed ∙ all_passed polls c.loop-poll.poll past }
