@@ -1,5 +1,5 @@
 // The plain machine: what the unit means, call by call, and what holds of every history of calls. This crate is nearly all
-// definitions (specs/) and proofs; the unit's calls will be tied to it in a crate above.
+// definitions (specs/) and proofs; the unit's calls are tied to it in a crate above.
 #![tactic(auto)]
 
 pub mod call;
