@@ -1,30 +1,42 @@
 // How calls are made one after another.
-ghost use Rattle.std.specs.Prelude.{◌≡◌, IfSome, is_some, IfOk, IfErr, Some, take, drop};
+ghost use Rattle.std.specs.Prelude.{◌≡◌, IfSome, is_some, IfOk, IfErr, MatchResult, Ok, Some, None, take, drop};
 ghost use Rattle.admission.specs.Contents.{contents};
-ghost use Rattle.machine.specs.declared.call.Reply.TheVariants.{Granted};
 ghost use Rattle.machine.specs.Machine.{open_refusal, set_up};
 ghost use Rattle.machine.specs.Promises.{EveryHistoryKeeps};
-ghost use Rattle.unit.specs.Meaning.{meaning, called, answered};
+ghost use Rattle.unit.specs.Meaning.{meaning, called, answered, as_grant, as_report};
 ghost use Rattle.runner.specs.Running.{made, machine_after, answers_to, OfSlot};
 
 use admission::Table;
-use machine::{Answer, Call, Outcome, Refusal, Reply};
+use machine::{Answer, Call, Refusal, Reply};
 use queue::ReadyQueue;
 use unit::{Token, Unit};
 
-// What a granted slot is answered.
-fn granted(token: &Token) -> Reply
-    ensures value { result ≡ Granted token.now.unit token.now.slot token.now.owner token.now.deadline }
+// The token of a granted slot is in hand, and its numbers are the answer.
+fn granted(token: Token) -> (Option<Token>, Answer)
+    ensures token { result.0 ≡ Some token }
+    ensures answer { result.1 ≡ as_grant (Ok token) }
 {
-    Reply::Granted {
+    let reply = Reply::Granted {
         unit: token.unit(),
         slot: token.slot(),
         owner: token.owner(),
         deadline: token.deadline(),
+    };
+    (Some(token), Ok(reply))
+}
+
+// After an accepted report no token is in hand; one that comes back still is.
+fn reported(heard: Result<(), (Refusal, Token)>) -> (Option<Token>, Answer)
+    ensures token { MatchResult heard (λ done. result.0 ≡ None) (λ refused. result.0 ≡ Some refused.1) }
+    ensures answer { result.1 ≡ as_report heard }
+{
+    match heard {
+        Ok(()) => (None, Ok(Reply::Reported)),
+        Err((refusal, token)) => (Some(token), Err(refusal)),
     }
 }
 
-// Makes a call. The token in hand, if there is one, is that of the open slot.
+// Makes a call. The token in hand, if there is one, is that of the open slot; a report of any other finds no token.
 fn step<Q: ReadyQueue>(
     unit: &mut Unit<Q>,
     held: Option<Token>,
@@ -41,10 +53,7 @@ fn step<Q: ReadyQueue>(
     match call {
         Call::Request { lane, budget } => (held, unit.request(lane, budget).map(Reply::Deadline)),
         Call::Grant => match unit.grant() {
-            Ok(token) => {
-                let reply = granted(&token);
-                (Some(token), Ok(reply))
-            }
+            Ok(token) => granted(token),
             Err(refusal) => (held, Err(refusal)),
         },
         Call::Report {
@@ -52,12 +61,9 @@ fn step<Q: ReadyQueue>(
             slot,
             outcome,
         } => match held {
-            Some(token) if token.unit() == number && token.slot() == slot => match unit.report(
-                token, outcome,
-            ) {
-                Ok(()) => (None, Ok(Reply::Reported)),
-                Err((refusal, token)) => (Some(token), Err(refusal)),
-            },
+            Some(token) if token.unit() == number && token.slot() == slot => {
+                reported(unit.report(token, outcome))
+            }
             held => (held, Err(Refusal::NotThisSlot)),
         },
     }

@@ -1,5 +1,5 @@
 -- At first no call is made; each turn makes one more, by what a step ensures.
-use Rattle.std.proofs.Common.{◌+◌, ◌<◌, length, take, set, refl, sym, ap, ◌∙◌, arith}
+use Rattle.std.proofs.Common.{◌+◌, ◌<◌, [], length, take, set, refl, sym, ap, ◌∙◌, arith}
 use Rattle.std.proofs.lemmas.Grind.{common_steps}
 use Rattle.admission.specs.Contents.{contents}
 use Rattle.machine.specs.Machine.{set_up}
@@ -14,8 +14,8 @@ loop-i-init g c =
     let unit = meaning g.Q.ReadyQueue.bag g.Q.ReadyQueue.places c.args.unit.now in
     let machine = c.open.ensures.meaning ∙ begins tt unit (contents c.args.table.now) c.args.number (sym c.open.ensures.answer ∙ c.in_ok-open.was) in
     record {
-      answers = refl;
-      rest = refl;
+      answers = refl {a = []};
+      rest = refl {a = c.args.answers.now};
       machine = machine;
       held = ap (λ m. m.state.is_open) (sym machine);
       own = tt;
