@@ -2,7 +2,7 @@
 // uses, letting a token go and reporting it twice, are no programs (must-fail/).
 #![tactic(auto)]
 
-ghost use Rattle.std.specs.Prelude.{◌≡◌, false};
+ghost use Rattle.std.specs.Prelude.{◌≡◌};
 ghost use Rattle.std.specs.Option.{option_map_or};
 ghost use Rattle.machine.specs.declared.call.Call.TheVariants.{Report};
 ghost use Rattle.machine.specs.declared.refusal.Refusal.TheVariants.{NotThisSlot};
@@ -15,7 +15,7 @@ use queue::ReadyQueue;
 use unit::{Token, Unit};
 
 // Reports the token of the slot that is open, which is never refused.
-pub fn close<Q: ReadyQueue>(unit: &mut Unit<Q>, token: Token, outcome: Outcome)
+fn close<Q: ReadyQueue>(unit: &mut Unit<Q>, token: Token, outcome: Outcome)
     requires open { IsOfOpenSlot token (meaning Q.bag Q.places unit.old) }
     ensures meaning { meaning Q.bag Q.places unit.new ≡ called (meaning Q.bag Q.places unit.old) (Report token.unit token.slot outcome) }
     ensures whose { Q.whose unit.new.queue ≡ Q.whose unit.old.queue }
@@ -35,21 +35,19 @@ pub fn turn<Q: ReadyQueue>(unit: &mut Unit<Q>, outcome: Outcome) -> Result<(), R
     Ok(())
 }
 
-// Takes the next slot, and brings its token to another unit first. That has no slot open, and says so; the token comes back,
-// and is reported to its own unit.
-pub fn turn_after_detour<Q: ReadyQueue, R: ReadyQueue>(
+// Takes the next slot, and brings its token to another unit first, which is put together around a queue and not opened. That
+// has no slot open, and says so; the token comes back, and is reported to its own unit.
+pub fn turn_after_detour<Q: ReadyQueue, R: ReadyQueue + Drop>(
     unit: &mut Unit<Q>,
-    other: &mut Unit<R>,
+    spare: R,
     outcome: Outcome,
 ) -> Result<Refusal, Refusal>
-    requires shut { (meaning R.bag R.places other.old).state.is_open ≡ false }
     ensures meaning { meaning Q.bag Q.places unit.new ≡ turned (meaning Q.bag Q.places unit.old) outcome }
     ensures answer { result ≡ option_map_or Err (grant_refusal (meaning Q.bag Q.places unit.old).setup (meaning Q.bag Q.places unit.old).state) (Ok NotThisSlot) }
-    ensures other { meaning R.bag R.places other.new ≡ meaning R.bag R.places other.old }
     ensures whose { Q.whose unit.new.queue ≡ Q.whose unit.old.queue }
-    ensures whose_other { R.whose other.new.queue ≡ R.whose other.old.queue }
 {
     let token = unit.grant()?;
+    let mut other = Unit::new(spare);
     match other.report(token, outcome) {
         // this never comes: it would have closed a slot of the other unit
         Ok(()) => Ok(Refusal::NotThisSlot),
