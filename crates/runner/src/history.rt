@@ -78,6 +78,7 @@ pub fn run<Q: ReadyQueue>(
     calls: &[Call],
     answers: &mut [Answer],
 ) -> Result<Option<Token>, Refusal>
+    ensures opened { IfOk result (λ held. open_refusal (meaning Q.bag Q.places unit.old) (contents table.now) ≡ None) }
     ensures answers { IfOk result (λ held. take (made calls.now answers.old) answers.new ≡ answers_to (set_up (Q.places unit.old.queue) (contents table.now) number) (take (made calls.now answers.old) calls.now)) }
     ensures rest { IfOk result (λ held. drop (made calls.now answers.old) answers.new ≡ drop (made calls.now answers.old) answers.old) }
     ensures meaning { IfOk result (λ held. meaning Q.bag Q.places unit.new ≡ machine_after (set_up (Q.places unit.old.queue) (contents table.now) number) (take (made calls.now answers.old) calls.now)) }
@@ -85,7 +86,7 @@ pub fn run<Q: ReadyQueue>(
     ensures held { IfOk result (λ held. is_some held ≡ (meaning Q.bag Q.places unit.new).state.is_open) }
     ensures own { IfOk result (λ held. IfSome held (λ token. OfSlot (meaning Q.bag Q.places unit.new) token)) }
     ensures refusal { IfErr result (λ refusal. open_refusal (meaning Q.bag Q.places unit.old) (contents table.now) ≡ Some refusal) }
-    ensures unopened { IfErr result (λ refusal. meaning Q.bag Q.places unit.new ≡ meaning Q.bag Q.places unit.old) }
+    ensures unchanged { IfErr result (λ refusal. meaning Q.bag Q.places unit.new ≡ meaning Q.bag Q.places unit.old) }
     ensures untouched { IfErr result (λ refusal. answers.new ≡ answers.old) }
     ensures whose { Q.whose unit.new.queue ≡ Q.whose unit.old.queue }
 {
