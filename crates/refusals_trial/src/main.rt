@@ -119,6 +119,7 @@ fn requests(rt: &HostRuntime, table: &Table) -> anyhow::Result<()> {
         request_in_a_slot(&mut unit),
         "a request while a slot is open",
     )?;
+    tell(rt, unopened, "a request on an unopened unit")?;
     tell(
         rt,
         unit.request(1, 1),
@@ -147,7 +148,7 @@ fn turns<Q: ReadyQueue>(unit: &mut Unit<Q>, slots: u32) -> Result<(), Refusal> {
     Ok(())
 }
 
-// 40, 41 and 43.
+// 43, 40 and 41, in the order in which they are asked.
 fn grants(rt: &HostRuntime, table: &Table) -> anyhow::Result<()> {
     let mut area = [NOBODY; PLACES];
     let mut unit = Unit::new(Heap::new(&mut area));
