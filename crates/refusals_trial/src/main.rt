@@ -3,15 +3,17 @@
 // is, over whatever queue, the promises say that there is a place each time (`machine::promise::promises_stand`).
 #![tactic(auto)]
 
-ghost use Rattle.std.specs.Prelude.{◌≡◌, true, false};
-ghost use Rattle.unit.specs.Meaning.{meaning};
+ghost use Rattle.std.specs.Prelude.{◌≡◌, true};
+ghost use Rattle.machine.specs.declared.call.Call.TheVariants.{Report};
+ghost use Rattle.unit.specs.Meaning.{meaning, called};
+ghost use Rattle.token_use.specs.Turns.{IsOfOpenSlot};
 
 use admission::{Table, admit};
 use anyhow::ensure;
 use machine::{Outcome, Refusal};
 use queue::{Heap, Job, ReadyQueue};
-use token_use::{close, turn, turn_after_detour};
-use unit::Unit;
+use token_use::{turn, turn_after_detour};
+use unit::{Token, Unit};
 
 // A poll of 1 slot in 4, and a lane of 1 in 4.
 const SHEET: [u8; 21] = [
@@ -75,6 +77,15 @@ fn opening(rt: &HostRuntime, table: &Table) -> anyhow::Result<()> {
     let mut unit = Unit::new(Heap::new(&mut area));
     ensure!(unit.open(table, 0).is_ok(), "the unit is not opened");
     tell(rt, unit.open(table, 1), "opening a second time")
+}
+
+// Reports the token of the slot that is open, which is never refused.
+fn close<Q: ReadyQueue>(unit: &mut Unit<Q>, token: Token, outcome: Outcome)
+    requires open { IsOfOpenSlot token (meaning Q.bag Q.places unit.old) }
+    ensures meaning { meaning Q.bag Q.places unit.new ≡ called (meaning Q.bag Q.places unit.old) (Report token.unit token.slot outcome) }
+{
+    let reported = unit.report(token, outcome).is_ok();
+    prove!(reported);
 }
 
 // A request while a slot is open.
@@ -175,13 +186,11 @@ fn grants(rt: &HostRuntime, table: &Table) -> anyhow::Result<()> {
 }
 
 // A report to a unit that has no slot open; the token is then reported to its own.
-fn detour<Q: ReadyQueue, R: ReadyQueue>(
+fn detour<Q: ReadyQueue, R: ReadyQueue + Drop>(
     unit: &mut Unit<Q>,
-    other: &mut Unit<R>,
-) -> Result<(), Refusal>
-    requires shut { (meaning R.bag R.places other.old).state.is_open ≡ false }
-{
-    Err(turn_after_detour(unit, other, Outcome::Used)?)
+    spare: R,
+) -> Result<(), Refusal> {
+    Err(turn_after_detour(unit, spare, Outcome::Used)?)
 }
 
 // 50.
@@ -189,11 +198,10 @@ fn reports(rt: &HostRuntime, table: &Table) -> anyhow::Result<()> {
     let mut area = [NOBODY; PLACES];
     let mut unit = Unit::new(Heap::new(&mut area));
     ensure!(unit.open(table, 0).is_ok(), "the unit is not opened");
-    let mut other_area = [NOBODY; PLACES];
-    let mut other = Unit::new(Heap::new(&mut other_area));
+    let mut spare = [NOBODY; PLACES];
     tell(
         rt,
-        detour(&mut unit, &mut other),
+        detour(&mut unit, Heap::new(&mut spare)),
         "a report to a unit that has no slot open",
     )
 }
