@@ -1,3 +1,4 @@
+pub mod Counting
 pub mod Recents
 pub mod Folds
 pub mod NextRelease

@@ -30,16 +30,14 @@ impl Recent {
     }
 
     // How many of them lie past the slot.
+    #[tactic(auto, using(crate::proofs::Counting::counted))]
     pub(crate) fn ahead(&self, slot: u32) -> usize
         ensures value { result ≡ ahead slot (deadlines_of self.now) }
     {
-        let mut ahead = 0;
-        for deadline in &self.deadlines[..self.count] {
-            if *deadline > slot {
-                ahead += 1;
-            }
-        }
-        ahead
+        self.deadlines[..self.count]
+            .iter()
+            .filter(|deadline| **deadline > slot)
+            .count()
     }
 
     // The newest, or 0 if there is none.

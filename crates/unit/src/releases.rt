@@ -82,17 +82,13 @@ impl Releases {
     }
 
     // How many are due at the slot.
-    #[tactic(auto, using(crate::proofs::Releasing::due_sorted))]
     fn due(&self, slot: u32) -> usize
         ensures value { result ≡ due_count slot (releases_of self.now) }
     {
-        let mut due = 0;
-        for release in &self.area[..self.count] {
-            if release.slot == slot {
-                due += 1;
-            }
-        }
-        due
+        self.area[..self.count]
+            .iter()
+            .filter(|release| release.slot == slot)
+            .count()
     }
 
     // Whether at most so many are due at the slot. They are counted only where fewer places are free than there are polls,
