@@ -79,7 +79,8 @@ fn opening(rt: &HostRuntime, table: &Table) -> anyhow::Result<()> {
     tell(rt, unit.open(table, 1), "opening a second time")
 }
 
-// Reports the token of the slot that is open, which is never refused.
+// Reports the token of the slot that is open, which is never refused. `token_use` has the same for itself: a public one would
+// ask its callers for an open slot.
 fn close<Q: ReadyQueue>(unit: &mut Unit<Q>, token: Token, outcome: Outcome)
     requires open { IsOfOpenSlot token (meaning Q.bag Q.places unit.old) }
     ensures meaning { meaning Q.bag Q.places unit.new ≡ called (meaning Q.bag Q.places unit.old) (Report token.unit token.slot outcome) }
