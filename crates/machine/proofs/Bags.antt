@@ -1,6 +1,6 @@
 -- Bags of jobs: sums over them, their order by deadline, and what a closed slot takes from them. Of the order of jobs only its
 -- laws are used.
-use Rattle.std.proofs.Common.{◌≡◌, ℕ, ◌+◌, ◌<◌, ◌≤◌, Bool, true, false, cond, leb, ◌⊎◌, List, [], ◌∷◌, if◌then◌else◌, sym, refl, ap, ◌∙◌, subst, inl, inr, arith}
+use Rattle.std.proofs.Common.{◌≡◌, ℕ, ◌+◌, ◌<◌, ◌≤◌, Bool, true, false, cond, leb, ◌⊎◌, List, [], ◌∷◌, length, if◌then◌else◌, sym, refl, ap, ◌∙◌, subst, inl, inr, arith}
 use Rattle.std.specs.List.{AllByRecursion}
 use Rattle.std.proofs.lemmas.Bool.{cases_Bool, cases_lt, le-leb, lt-leb}
 use Rattle.pile.proofs.Inserting.{insert_past, insert_here, insert_none}
@@ -54,6 +54,11 @@ pub all_put_all : (P : Job → Type 0) (jobs bag : List Job) → AllByRecursion 
 unfolding put_all
 all_put_all P [] bag d e = e
 all_put_all P (job ∷ jobs) bag d e = all_put P job (put_all jobs bag) d.0 (all_put_all P jobs bag d.1 e)
+
+-- a bag's length is a sum
+pub length_is_sum : (jobs : List Job) → length jobs ≡ sum_of (λ (job : Job). 1) jobs
+length_is_sum [] = refl
+length_is_sum (job ∷ jobs) = omega (arith, length_is_sum jobs)
 
 -- THE ORDER BY DEADLINE
 

@@ -12,6 +12,10 @@ use Rattle.machine.proofs.Marked.{marked, marked_pays}
 reach_pays : (lane : Lane) (budget : ℕ) → 1 ≤ lane.quota → budget * lane.span ≤ lane.quota * reach lane budget
 reach_pays lane budget some = omega (arith, lt-mul-div-succ (budget * lane.span + (lane.quota - 1)) {b = lane.quota} some)
 
+-- a clock that was never advanced shows 0
+pub due_at_first : (lane : Lane) → due_at lane 0 ≡ 0
+due_at_first lane = refl
+
 -- a new deadline is past the slot, and past the last one
 pub deadline_grows : (cycle : ℕ) (lane : Lane) → LaneFits cycle lane → (slot clock budget : ℕ) → 1 ≤ budget →
     (slot < due_at lane (advance lane slot clock budget)) × (due_at lane clock < due_at lane (advance lane slot clock budget))
