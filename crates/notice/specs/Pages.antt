@@ -1,5 +1,5 @@
 -- The page: the verdict, the ground of a refusal, and the records with what each takes of a cycle.
-use Rattle.std.specs.Prelude.{ℕ, ◌+◌, List, [], ◌∷◌, ◌++◌, Some, None, Ok, Err, codes, decimal, Option, Result}
+use Rattle.std.specs.Prelude.{ℕ, ◌+◌, ◌≤◌, ⊤, List, [], ◌∷◌, ◌++◌, Some, None, Ok, Err, codes, decimal, Option, Result}
 use Rattle.sheet.specs.declared.fault.Diagnosis.{Diagnosis}
 use Rattle.sheet.specs.declared.fault.RecordFault.{RecordFault}
 use Rattle.sheet.specs.Kinds.{kind_name}
@@ -10,6 +10,7 @@ use Rattle.admission.specs.declared.fault.AdmissionFault.{AdmissionFault}
 use Rattle.admission.specs.declared.fault.AdmissionFault.TheVariants.{Record, Cycle, Load}
 use Rattle.admission.specs.Faults.{admission_diagnosis}
 use Rattle.admission.specs.Grounds.{ground_of}
+use Rattle.admission.specs.Demand.{longest_cycle}
 use Rattle.admission.specs.Verdict.{length_of, share_of, slots_of, admit_sheet}
 use Rattle.notice.specs.Columns.{at_left, at_right}
 
@@ -37,6 +38,11 @@ known_cycle (Ok pair) = Some pair.1
 known_cycle (Err (Record fault)) = None
 known_cycle (Err (Cycle at)) = None
 known_cycle (Err (Load load cycle)) = Some cycle
+
+-- a cycle that is known is within its limit
+abbrev pub Short : Option ℕ → Type 0
+Short None = ⊤
+Short (Some cycle) = cycle ≤ longest_cycle
 
 abbrev pub kind_text : Entry → List ℕ
 kind_text entry = kind_name (kind_of entry)

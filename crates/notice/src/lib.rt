@@ -3,7 +3,7 @@
 
 ghost use Rattle.std.specs.Prelude.{◌≡◌, is_ok, IfOk};
 ghost use Rattle.admission.specs.Verdict.{admit_sheet};
-ghost use Rattle.notice.specs.Pages.{known_cycle, page_of};
+ghost use Rattle.notice.specs.Pages.{Short, known_cycle, page_of};
 
 use admission::{AdmissionFault, Table, Verdict};
 use std::alloc::{AllocError, Global};
@@ -34,9 +34,11 @@ fn known_cycle(verdict: Verdict) -> Option<u64>
 
 impl Notice {
     // The notice for a sheet, admitted or not.
+    #[tactic(auto, using(crate::proofs::Known::known_short))]
     pub fn new(heap: Global, sheet: &[u8]) -> Result<Notice, AllocError>
         ensures text { IfOk result (λ notice. notice.text.items ≡ page_of sheet.now) }
         ensures verdict { IfOk result (λ notice. notice.verdict ≡ admit_sheet sheet.now) }
+        ensures short { IfOk result (λ notice. Short (known_cycle notice.verdict)) }
     {
         let mut table = Table::new();
         let verdict = admission::admit(sheet, &mut table);
