@@ -12,7 +12,7 @@ mod line;
 mod records;
 mod verdict;
 
-use records::record_lines;
+use records::with_record_lines;
 use verdict::verdict_lines;
 
 // The text of the page, and the verdict that it tells.
@@ -42,9 +42,8 @@ impl Notice {
     {
         let mut table = Table::new();
         let verdict = admission::admit(sheet, &mut table);
-        let mut text = verdict_lines(heap, verdict)?.into_bytes();
-        let records = record_lines(heap, sheet, known_cycle(verdict))?;
-        text.extend_from_slice(records.as_slice())?;
+        let text = verdict_lines(heap, verdict)?.into_bytes();
+        let text = with_record_lines(heap, text, sheet, known_cycle(verdict))?;
         Ok(Notice { text, verdict })
     }
 

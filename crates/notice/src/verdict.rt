@@ -19,8 +19,9 @@ pub(crate) fn verdict_lines(heap: Global, verdict: Verdict) -> Result<String, Al
     match verdict {
         Ok((load, cycle)) => format!(in heap; "admitted {load} of {cycle}\n"),
         Err(fault) => {
-            let line = refused_line(heap, fault.diagnosis())?;
-            format!(in heap; "{line}{fault}\n")
+            let mut lines = refused_line(heap, fault.diagnosis())?;
+            writeln!(lines, "{fault}")?;
+            Ok(lines)
         }
     }
 }
