@@ -131,6 +131,10 @@ module _ {X : Type 0} (before : X → X → Bool) where
         ∙ insert_first before x _ (front_sorted before x (take n xs) (front_each before x (take n xs) (λ k c a.
         by _ _ _ _ false (get_or-take n xs k c (omega arith)) (get_or_default xs n d c l) (behind xs (n + 1) c h k n (omega arith) (omega arith)))))
 
+    -- fewer of a row are a row
+    pub falling_less : (xs : List X) (n m : ℕ) → m ≤ n → Falling before xs n → Falling before xs m
+    falling_less xs n m l h k d a = h k d (omega arith)
+
     -- an element that comes before the last is written over it
     module _ (xs : List X) (n : ℕ) (v : X) (l : n < length xs) (sooner : (d : X) → before v (get_or xs n d) ≡ true) (h : Falling before xs (n + 1)) where
       pub falling_lower : Falling before (set xs n v) (n + 1)

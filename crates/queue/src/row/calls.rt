@@ -46,6 +46,8 @@ impl<'a> ReadyQueue for Row<'a> {
         self.area[..self.count].last().copied()
     }
 
+    // in line, so that no call is made where there is no place
+    #[inline]
     #[tactic(auto, using(crate::specs::OfRow::row_count))]
     fn put(&mut self, job: Job) -> Result<(), PutRefusal> {
         // named by the type, since `self` is lent here and a lent queue is a queue too (lent.rt)
