@@ -75,7 +75,7 @@ pub fn admit(bytes: &[u8], table: &mut Table) -> Verdict
     ensures laws { AdmissionLaws bytes.now }
 {
     let mut records = Records::new();
-    sheet::read(bytes, &mut records)?;
+    sheet::read_list(bytes, &mut records)?;
     let found = cycle_of(&records)?;
     let load = load_of(&records, found);
     let cycle = found.slots;

@@ -85,7 +85,7 @@ pub(crate) fn with_record_lines(
     ensures bytes { IfOk result (λ longer. longer.items ≡ text.items ++ record_lines cycle (read_sheet sheet.now)) }
 {
     let mut records = Records::new();
-    if sheet::read(sheet, &mut records).is_err() {
+    if sheet::read_list(sheet, &mut records).is_err() {
         return Ok(text);
     }
     text.reserve_exact(HEADING.len() + LINE_BYTES * records.as_slice().len())?;

@@ -1,14 +1,15 @@
 -- What reading a sheet gives: its records, or the fault of the first question that is answered with no.
-use Rattle.std.specs.Prelude.{if◌then◌else◌, ◌≡◌, ℕ, zero, suc, ◌+◌, List, [], ◌∷◌, ◌++◌, length, take, Ok, Err, Result}
+use Rattle.std.specs.Prelude.{if◌then◌else◌, ◌≡◌, ℕ, zero, suc, ◌+◌, ◌≤◌, List, [], ◌∷◌, ◌++◌, map, length, take, Ok, Err, Result}
 use Rattle.sheet.specs.declared.kind.Kind.{Kind}
 use Rattle.sheet.specs.declared.kind.Kind.TheVariants.{Poll as OfPoll, Lane as OfLane}
+use Rattle.sheet.specs.declared.record.Record.{Record}
 use Rattle.sheet.specs.declared.header.Header.{Header}
 use Rattle.sheet.specs.declared.fault.ByteFault.{ByteFault}
 use Rattle.sheet.specs.declared.fault.RecordFault.{RecordFault}
 use Rattle.sheet.specs.declared.fault.RecordFault.TheVariants.{Bytes, Letter, NameLength, Name, Numbers, Ending}
 use Rattle.sheet.specs.Limits.{header_bytes}
 use Rattle.sheet.specs.Header.{word_at, header_of}
-use Rattle.sheet.specs.Entries.{Entry, poll, lane, names_of, end_of}
+use Rattle.sheet.specs.Entries.{Entry, poll, lane, seen, names_of, end_of}
 use Rattle.sheet.specs.Records.{kind_at, name_bytes, letter_is_due, name_length_fits, name_is_allowed, numbers_fit, ends_at_length}
 
 -- `r`, and then `f` of what it holds, unless it is a fault
@@ -60,3 +61,8 @@ read_sheet bytes = after_header (header_of bytes) bytes
 abbrev pub Gives : {A B E : Type 0} → (A → B) → Result A E → Result B E → Type 0
 Gives view (Ok x) s = s ≡ Ok (view x)
 Gives view (Err e) s = s ≡ Err e
+
+-- the count r is the answer s, whose records are the first r of the area
+abbrev pub GivesEntries : {E : Type 0} → Result ℕ E → List Record → Result (List Entry) E → Type 0
+GivesEntries (Ok count) area s = (count ≤ length area) × (s ≡ Ok (map seen (take count area)))
+GivesEntries (Err e) area s = s ≡ Err e

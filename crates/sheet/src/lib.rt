@@ -12,6 +12,6 @@ pub mod records;
 
 pub use fault::{ByteFault, Diagnosis, Layer, RecordFault};
 pub use kind::Kind;
-pub use reader::read;
-pub use record::Record;
-pub use records::{MOST_RECORDS, Records};
+pub use reader::{read, read_list};
+pub use record::{MOST_RECORDS, NO_RECORD, Record};
+pub use records::Records;

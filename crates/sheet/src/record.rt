@@ -3,7 +3,11 @@
 ghost use Rattle.std.specs.Prelude.{◌≡◌};
 ghost use Rattle.sheet.specs.Entries.{seen, kind_of, name_of, place_of};
 
+use super::header::{MOST_LANES, MOST_POLLS};
 use super::kind::Kind;
+
+// A sheet holds at most so many records: 32 polls and 8 lanes.
+pub const MOST_RECORDS: usize = MOST_POLLS + MOST_LANES;
 
 // A record, with its name as a part of the sheet and `at`, the byte at which it begins. All times are in slots.
 #[derive(Clone, Copy, Debug, PartialEq, Eq)]
@@ -22,6 +26,14 @@ pub enum Record<'a> {
         at: usize,
     },
 }
+
+// Fills the places that no record of a sheet has taken.
+pub const NO_RECORD: Record<'static> = Record::Lane {
+    name: &[],
+    span: 1,
+    quota: 1,
+    at: 0,
+};
 
 impl<'a> Record<'a> {
     pub fn kind(self) -> Kind

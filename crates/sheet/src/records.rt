@@ -5,20 +5,8 @@ ghost use Rattle.few.specs.Elements.{elements};
 ghost use Rattle.sheet.specs.Entries.{seen};
 ghost use Rattle.sheet.specs.Limited.{WithinLimits, within_limits_prop};
 
-use super::header::{MOST_LANES, MOST_POLLS};
-use super::record::Record;
+use super::record::{MOST_RECORDS, NO_RECORD, Record};
 use few::Few;
-
-// A sheet holds at most so many records: 32 polls and 8 lanes.
-pub const MOST_RECORDS: usize = MOST_POLLS + MOST_LANES;
-
-// Stands in the places that no record has taken.
-pub(crate) const NO_RECORD: Record<'static> = Record::Lane {
-    name: &[],
-    span: 1,
-    quota: 1,
-    at: 0,
-};
 
 // Every number of every record lies in its limits.
 #[derive(Clone, Copy)]

@@ -4,9 +4,9 @@ use Rattle.few.specs.Elements.{elements}
 use Rattle.sheet.specs.Entries.{seen}
 use Rattle.sheet.specs.Reading.{read_sheet}
 use Rattle.sheet.proofs.Lawful.{sheet_laws}
-use Rattle.sheet.proofs.reader.read.Goals as goal
+use Rattle.sheet.proofs.reader.read_list.Goals as goal
 
 pub limited-requires : goal.limited-requires
 limited-requires c =
-    let known : read_sheet c.args.bytes.now ≡ Ok (map seen (elements c.in_ok-read_records.field-0)) = search rules in
+    let known : read_sheet c.args.bytes.now ≡ Ok (map seen (elements c.read_records.new.list)) = search rules in
     record { within_limits = ((sheet_laws c.args.bytes.now).well_read _ known).limits }
